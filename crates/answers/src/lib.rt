@@ -1,0 +1,68 @@
+// The numbers a task can get back: the refusals of the paper's table, and an answer with its value.
+ghost use mathlib.Core.Path.{_≡_};
+ghost use Rattle.answers.specs.Numbers.{numberOf, replyOf};
+
+// The table's names, in its order.
+pub enum Refusal {
+    BadSlot,
+    BadObject,
+    BadList,
+    Busy,
+    Idle,
+    NotDeclared,
+    BadCall,
+    Released,
+    Doomed,
+    Wait,
+    NoRoom,
+    BadRecord,
+}
+
+impl Refusal {
+    pub fn number(self) -> u32
+        ensures { λ r. ⌜ r ≡ numberOf self ⌝ }
+    {
+        match self {
+            Refusal::BadSlot => 1,
+            Refusal::BadObject => 2,
+            Refusal::BadList => 3,
+            Refusal::Busy => 4,
+            Refusal::Idle => 5,
+            Refusal::NotDeclared => 6,
+            Refusal::BadCall => 7,
+            Refusal::Released => 8,
+            Refusal::Doomed => 9,
+            Refusal::Wait => 10,
+            Refusal::NoRoom => 11,
+            Refusal::BadRecord => 12,
+        }
+    }
+}
+
+// What a step or a writer gives back: accepted with a value, or a refusal.
+pub enum Answer {
+    Accepted(u32),
+    Refused(Refusal),
+}
+
+impl Answer {
+    // 0 is accepted.
+    pub fn number(self) -> u32
+        ensures { λ r. ⌜ r ≡ replyOf self .number ⌝ }
+    {
+        match self {
+            Answer::Accepted(_) => 0,
+            Answer::Refused(refusal) => refusal.number(),
+        }
+    }
+
+    // Every refusal has value 0.
+    pub fn value(self) -> u32
+        ensures { λ r. ⌜ r ≡ replyOf self .value ⌝ }
+    {
+        match self {
+            Answer::Accepted(value) => value,
+            Answer::Refused(_) => 0,
+        }
+    }
+}

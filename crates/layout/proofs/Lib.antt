@@ -1,0 +1,9 @@
+pub mod EntryWalk
+pub mod Lengths
+pub mod LittleEndian
+pub mod Fronts
+pub mod Frames
+pub mod Readable
+pub mod ReadBack
+pub mod WriteBack
+pub mod Writes

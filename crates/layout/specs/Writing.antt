@@ -1,0 +1,42 @@
+-- Writing: 'fields that make no readable record (for a start, also an odd list) give 12, then a short buffer gives 11, else the record
+-- stands at the buffer's first byte, the rest stays and the value is the bytes written.'
+use Prim.Native.Nat.{ℕ, _+_}
+use mathlib.Core.Bool.{Bool, not, _&&_}
+use mathlib.Core.List.{List, [], _∷_, _++_}
+use lib.ListN.{length, drop}
+use lib.Dec.{leb, ltb, eqb}
+use Rattle.answers.specs.Numbers.{Reply, replyOf, accepted, refused}
+use Rattle.answers.specs.Order.{Rule, decide}
+use Rattle.answers.specs.declared.Answer.{Answer}
+use Rattle.answers.specs.declared.Refusal.the-variants.{NoRoom, BadRecord}
+use Rattle.counters.specs.Sizes.{Size}
+use Rattle.layout.specs.Kinds.{bodyLength, bodyLimit}
+use Rattle.layout.specs.Fields.{kindOfFields, bodyOf, recordOf}
+use Rattle.layout.specs.Reading.{contentRight}
+use Rattle.layout.specs.declared.fields.Fields.{Fields}
+
+-- whether fields and list make a readable record: the last checks of reading, on the body that they make
+abbrev pub readable : Size → Fields → List ℕ → Bool
+readable z f list =
+    leb (length (bodyOf f list)) (bodyLimit z)
+    && (eqb (length (bodyOf f list)) (bodyLength z (kindOfFields f) (bodyOf f list)) && contentRight z (kindOfFields f) (bodyOf f list))
+
+-- what a caller sees of a writer: the reply, and all of its buffer
+pub record Written : Type 0 where
+  pub reply : Reply
+  pub buffer : List ℕ
+
+abbrev pub written : Answer → List ℕ → Written
+written answer buffer = record { reply = replyOf answer; buffer = buffer }
+
+abbrev pub writingRules : Size → Fields → List ℕ → List ℕ → List Rule
+writingRules z f list buffer =
+    record { holds = not (readable z f list); refusal = BadRecord }
+    ∷ record { holds = ltb (length buffer) (length (recordOf f list)); refusal = NoRoom }
+    ∷ []
+
+abbrev pub writing : Size → Fields → List ℕ → List ℕ → Written
+writing z f list buffer =
+    decide (writingRules z f list buffer)
+    (λ refusal. record { reply = refused refusal; buffer = buffer })
+    (record { reply = accepted (length (recordOf f list)); buffer = recordOf f list ++ drop (length (recordOf f list)) buffer })

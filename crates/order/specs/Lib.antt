@@ -1,0 +1,2 @@
+pub mod CameFirst
+pub mod CommonObject

@@ -1,0 +1,12 @@
+-- `writer::front::frame` meets its promise.
+use borrow.Author.Needs.{needs}
+use Rattle.writer.proofs.front.frame.Statement.{statement}
+use Rattle.writer.proofs.front.frame.Tie as tie
+
+returns : tie.Need-returns
+returns c = rw (c .before .shape-of .ensures)
+
+pub frame-spec : {M : Type 1} → statement M
+frame-spec =
+    tie.close
+    (tie.spec (λ c κs. search needs) (λ c. search needs) (λ c. search needs) (λ c. search needs) (λ c. search needs) (λ c. search needs) (λ c. search needs) returns)
