@@ -17,3 +17,8 @@ pub record Rule : Type 0 where
 abbrev pub decide : {A : Type 0} → List Rule → (Refusal → A) → A → A
 decide [] refused accepted = accepted
 decide (rule ∷ rules) refused accepted = pick (rule .holds) (refused (rule .refusal)) (decide rules refused accepted)
+
+infix 68 _when_
+-- a rule, as the paper's table has it: the refusal, and when it is given
+abbrev pub _when_ : Refusal → Bool → Rule
+refusal when test = record { holds = test; refusal = refusal }

@@ -7,3 +7,4 @@ pub mod Readable
 pub mod ReadBack
 pub mod WriteBack
 pub mod Writes
+pub mod Placing

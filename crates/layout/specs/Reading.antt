@@ -4,7 +4,7 @@ use mathlib.Core.Bool.{Bool, true, not, _&&_}
 use mathlib.Core.List.{List, [], _∷_}
 use lib.ListN.{length, take, drop}
 use lib.Dec.{ltb, eqb}
-use Rattle.answers.specs.Order.{Rule, decide}
+use Rattle.answers.specs.Order.{Rule, decide, _when_}
 use Rattle.answers.specs.declared.Refusal.the-variants.{BadRecord}
 use Rattle.counters.specs.Sizes.{Size}
 use Rattle.layout.specs.Bytes.{byteAt, halfOf}
@@ -29,9 +29,9 @@ kindField s = halfOf (drop 2 s)
 -- 'under 4 bytes, length over 126, body not all there'
 abbrev pub frameRules : Size → List ℕ → List Rule
 frameRules z s =
-    record { holds = ltb (length s) 4; refusal = BadRecord }
-    ∷ record { holds = ltb (bodyLimit z) (lengthField s); refusal = BadRecord }
-    ∷ record { holds = ltb (length s) (4 + lengthField s); refusal = BadRecord }
+    BadRecord when ltb (length s) 4
+    ∷ BadRecord when ltb (bodyLimit z) (lengthField s)
+    ∷ BadRecord when ltb (length s) (4 + lengthField s)
     ∷ []
 
 -- the first three checks, and the kind's number
@@ -63,8 +63,8 @@ contentRight z RolledBack b = endRight z b
 -- 'unknown kind, length wrong for kind and n, content'
 abbrev pub bodyRules : Size → Kind → List ℕ → List Rule
 bodyRules z k b =
-    record { holds = not (eqb (length b) (bodyLength z k b)); refusal = BadRecord }
-    ∷ record { holds = not (contentRight z k b); refusal = BadRecord }
+    BadRecord when not (eqb (length b) (bodyLength z k b))
+    ∷ BadRecord when not (contentRight z k b)
     ∷ []
 
 abbrev pub bodyReading : Size → Kind → List ℕ → Reading

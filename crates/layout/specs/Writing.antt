@@ -6,7 +6,7 @@ use mathlib.Core.List.{List, [], _∷_, _++_}
 use lib.ListN.{length, drop}
 use lib.Dec.{leb, ltb, eqb}
 use Rattle.answers.specs.Numbers.{Reply, replyOf, accepted, refused}
-use Rattle.answers.specs.Order.{Rule, decide}
+use Rattle.answers.specs.Order.{Rule, decide, _when_}
 use Rattle.answers.specs.declared.Answer.{Answer}
 use Rattle.answers.specs.declared.Refusal.the-variants.{NoRoom, BadRecord}
 use Rattle.counters.specs.Sizes.{Size}
@@ -29,14 +29,28 @@ pub record Written : Type 0 where
 abbrev pub written : Answer → List ℕ → Written
 written answer buffer = record { reply = replyOf answer; buffer = buffer }
 
+-- by rules that refuse: 'touches no byte of any buffer', or 'the record stands at the buffer's first byte, the rest stays and ..'
+abbrev pub writtenBy : List Rule → Fields → List ℕ → List ℕ → Written
+writtenBy rules f list buffer =
+    decide rules
+    (λ refusal. record { reply = refused refusal; buffer = buffer })
+    (record { reply = accepted (length (recordOf f list)); buffer = recordOf f list ++ drop (length (recordOf f list)) buffer })
+
 abbrev pub writingRules : Size → Fields → List ℕ → List ℕ → List Rule
 writingRules z f list buffer =
-    record { holds = not (readable z f list); refusal = BadRecord }
-    ∷ record { holds = ltb (length buffer) (length (recordOf f list)); refusal = NoRoom }
+    BadRecord when not (readable z f list)
+    ∷ NoRoom when ltb (length buffer) (length (recordOf f list))
     ∷ []
 
 abbrev pub writing : Size → Fields → List ℕ → List ℕ → Written
-writing z f list buffer =
-    decide (writingRules z f list buffer)
-    (λ refusal. record { reply = refused refusal; buffer = buffer })
-    (record { reply = accepted (length (recordOf f list)); buffer = recordOf f list ++ drop (length (recordOf f list)) buffer })
+writing z f list buffer = writtenBy (writingRules z f list buffer) f list buffer
+
+-- a record that need not be readable, as that of an end with nothing declared: 'A body has at most 126 bytes.'
+abbrev pub placingRules : Size → Fields → List ℕ → List ℕ → List Rule
+placingRules z f list buffer =
+    BadRecord when ltb (bodyLimit z) (length (bodyOf f list))
+    ∷ NoRoom when ltb (length buffer) (length (recordOf f list))
+    ∷ []
+
+abbrev pub placing : Size → Fields → List ℕ → List ℕ → Written
+placing z f list buffer = writtenBy (placingRules z f list buffer) f list buffer

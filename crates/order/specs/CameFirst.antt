@@ -4,7 +4,7 @@ use Prim.Native.Nat.{ℕ}
 use mathlib.Core.Bool.{Bool, true, false, not}
 use mathlib.Core.List.{List, [], _∷_}
 use lib.Dec.{eqb}
-use Rattle.answers.specs.Order.{pick, Rule, decide}
+use Rattle.answers.specs.Order.{pick, Rule, decide, _when_}
 use Rattle.answers.specs.declared.Refusal.the-variants.{BadRecord}
 use Rattle.counters.specs.Sizes.{Size}
 use Rattle.counters.specs.Comparing.{compared, swapped}
@@ -45,8 +45,8 @@ isEnd (Reading.Refused refusal) = false
 -- 'Bytes that don't read as an end record give BadRecord, A's before B's.'
 abbrev pub orderRules : Bool → Bool → List Rule
 orderRules a-is-end b-is-end =
-    record { holds = not a-is-end; refusal = BadRecord }
-    ∷ record { holds = not b-is-end; refusal = BadRecord }
+    BadRecord when not a-is-end
+    ∷ BadRecord when not b-is-end
     ∷ []
 
 abbrev pub cameFirst : Size → List ℕ → List ℕ → CameFirst

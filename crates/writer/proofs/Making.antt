@@ -1,13 +1,12 @@
 -- Whether fields and a list make a readable record, test by test.
 use Prim.Native.Nat.{ℕ, _+_, _*_, _≤_, _<_}
-use mathlib.Core.Bool.{Bool, true, false, true≢false}
+use mathlib.Core.Bool.{false}
 use mathlib.Core.List.{List}
-use mathlib.Core.Path.{_≡_, refl, sym, _∙_}
+use mathlib.Core.Path.{_≡_, _∙_}
 use native.Mathlib.Nat.{mul-le-mul}
 use native.Mathlib.Omega.{arith}
 use lib.ListN.{length}
-use lib.Dec.{leb}
-use borrow.Author.Tests.{le-leb, lt-leb, eq-eqb, ne-eqb, leb-true, leb-false}
+use borrow.Author.Tests.{le-leb, lt-leb, eq-eqb, ne-eqb}
 use Rattle.counters.specs.Sizes.{base}
 use Rattle.layout.specs.Kinds.{shapeOf, bodyLimit}
 use Rattle.layout.specs.Fields.{kindOfFields}
@@ -31,14 +30,6 @@ wrong-length f list h n = readable-beside base f list ∙ simp (le-leb _ _ h, ne
 
 pub by-content : (f : Fields) (list : List ℕ) → head f + length list ≤ bodyLimit base → length list ≡ wanted f list → readable base f list ≡ contentBeside base f list
 by-content f list h e = readable-beside base f list ∙ simp (le-leb _ _ h, eq-eqb _ _ e)
-
--- a readable record's body is within the limit
-pub within : (f : Fields) (list : List ℕ) → readable base f list ≡ true → head f + length list ≤ bodyLimit base
-within f list e = go (leb (head f + length list) (bodyLimit base)) refl
-  where
-    go : (t : Bool) → leb (head f + length list) (bodyLimit base) ≡ t → head f + length list ≤ bodyLimit base
-    go true q = leb-true _ _ q
-    go false q = absurd (true≢false (sym e ∙ too-long f list (leb-false _ _ q)))
 
 -- items of a list within the limit are few
 pub few-items : (f : Fields) (bytes : ℕ) → bytes ≤ 126 → itemsBeside base f bytes ≤ 126

@@ -6,7 +6,7 @@ ghost use lib.ListN.{length, take, drop};
 ghost use Rattle.layout.specs.Bytes.{halfBytes, wordBytes};
 ghost use Rattle.layout.specs.Kinds.{shapeOf};
 ghost use Rattle.layout.specs.Fields.{kindOfFields, headOf, frontOf};
-use crate::place;
+use crate::splice;
 use layout::fields::Fields;
 use layout::fields::shape_of;
 
@@ -19,8 +19,8 @@ pub fn put(fields: Fields, bytes: usize, buf: &mut [u8])
     let length = shape_of(fields).head as usize;
     let frame = frame(fields, bytes);
     let head = head(fields, bytes);
-    place::put(&frame, buf, 0);
-    place::put(&head[..length], buf, 4);
+    splice::put(&frame, buf, 0);
+    splice::put(&head[..length], buf, 4);
 }
 
 // Length and kind, in front of a body with a list of so many bytes.

@@ -5,16 +5,17 @@ ghost use Prim.Native.Nat.{_≤_};
 ghost use lib.ListN.{length, drop};
 ghost use Rattle.counters.specs.Sizes.{base};
 ghost use Rattle.layout.specs.Fields.{recordOf};
-ghost use Rattle.layout.specs.Writing.{written, writing};
+ghost use Rattle.layout.specs.Writing.{written, writing, placing};
 
 mod beside;
 mod front;
-mod place;
+mod splice;
 
 use answers::Answer;
 use answers::Refusal;
 use layout::fields::Fields;
 use layout::fields::shape_of;
+use layout::kind::BODY_LIMIT;
 
 // Fields that make no readable record are BadRecord, then a short buffer is NoRoom; else the record stands at the
 // buffer's first byte, the rest stays, and the value is the bytes written.
@@ -24,7 +25,18 @@ pub fn write(fields: Fields, list: &[u8], buf: &mut [u8]) -> Answer
     if !beside::readable(fields, list) {
         return Answer::Refused(Refusal::BadRecord);
     }
-    let length = 4 + shape_of(fields).head as usize + list.len();
+    place(fields, list, buf)
+}
+
+// The record that fields and list make, readable or not: an end that lists no object is written too.
+pub fn place(fields: Fields, list: &[u8], buf: &mut [u8]) -> Answer
+    ensures { λ r. ⌜ written r (now (buf .exit)) ≡ placing base fields (now (list .entry)) (now (buf .entry)) ⌝ }
+{
+    let body = shape_of(fields).head as usize + list.len();
+    if BODY_LIMIT < body {
+        return Answer::Refused(Refusal::BadRecord);
+    }
+    let length = 4 + body;
     if buf.len() < length {
         return Answer::Refused(Refusal::NoRoom);
     }
@@ -39,5 +51,5 @@ fn put(fields: Fields, list: &[u8], buf: &mut [u8])
     ensures { λ _. ⌜ now (buf .exit) ≡ recordOf fields (now (list .entry)) ++ drop (length (recordOf fields (now (list .entry)))) (now (buf .entry)) ⌝ }
 {
     front::put(fields, list.len(), buf);
-    place::put(list, buf, 4 + shape_of(fields).head as usize);
+    splice::put(list, buf, 4 + shape_of(fields).head as usize);
 }

@@ -1,12 +1,12 @@
--- `writer::place::put` meets its promise.
+-- `writer::splice::put` meets its promise.
 use Prim.Native.Nat.{ℕ, _-_}
 use mathlib.Core.List.{List, _++_}
 use mathlib.Core.Path.{ap, _∙_}
 use lib.ListN.{length, take, drop}
 use Rattle.writer.proofs.Splicing.{part-filled}
 use borrow.Author.Needs.{needs}
-use Rattle.writer.proofs.place.put.Statement.{statement}
-use Rattle.writer.proofs.place.put.Tie as tie
+use Rattle.writer.proofs.splice.put.Statement.{statement}
+use Rattle.writer.proofs.splice.put.Tie as tie
 
 returns : tie.Need-returns
 returns c =

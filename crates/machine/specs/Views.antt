@@ -1,0 +1,12 @@
+-- The machine's tables as the rules see them, and what a step gives back.
+use Rattle.answers.specs.Numbers.{replyOf}
+use Rattle.rules.specs.Tables.{State}
+use Rattle.rules.specs.Steps.{Stepping}
+use Rattle.machine.specs.declared.Tables.{Tables}
+use Rattle.machine.specs.declared.Stepped.{Stepped}
+
+abbrev pub view : Tables → State
+view t = record { objects = t .objects; live = t .live; pairs = t .pairs }
+
+abbrev pub told : Stepped → Stepping
+told r = record { tables = view (r .tables); reply = replyOf (r .answer) }

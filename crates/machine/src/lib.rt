@@ -1,0 +1,109 @@
+// The machine: its tables go in with an event, and the new tables come back with the answer.
+ghost use mathlib.Core.Path.{_≡_};
+ghost use Rattle.counters.specs.Sizes.{base};
+ghost use Rattle.rules.specs.Tables.{freshTables};
+ghost use Rattle.rules.specs.Steps.{callStep, releaseStep, startStep, endStep, eventStep, recordStep};
+ghost use Rattle.machine.specs.Views.{view, told};
+use answers::Answer;
+use answers::Refusal;
+use counters::OBJECTS;
+use counters::ObjectNo;
+use counters::SLOTS;
+use counters::SlotNo;
+use counters::Version;
+use layout::fields::Fields;
+use layout::fields::Reading;
+use objects::Object;
+use objects::Pair;
+
+// The pair of slot s and object o stands at s * 24 + o.
+pub struct Tables {
+    pub objects: [Object; 24],
+    pub live: [bool; 16],
+    pub pairs: [Pair; 384],
+}
+
+pub struct Stepped {
+    pub tables: Tables,
+    pub answer: Answer,
+}
+
+impl Tables {
+    // Given a word for each object and a first version, all three versions of every object are that version and no slot
+    // is live.
+    pub fn fresh(first: Version, words: [u32; 24]) -> Tables
+        ensures { λ r. ⌜ view r ≡ freshTables base words (first .0) ⌝ }
+    {
+        let none = Pair::none();
+        let zero = Object {
+            word: 0,
+            global: first,
+            local: first,
+            terminal: first,
+        };
+        let mut tables = Tables {
+            objects: [zero; 24],
+            live: [false; 16],
+            pairs: [none; 384],
+        };
+        let mut o: usize = 0;
+        while o < 24 {
+            tables.objects[o] = Object {
+                word: words[o],
+                global: first,
+                local: first,
+                terminal: first,
+            };
+            o = o + 1;
+        }
+        tables
+    }
+
+    // A call, by the kinds table.
+    pub fn call(mut self, slot: SlotNo, number: ObjectNo, kind: u8, argument: u32) -> Stepped
+        ensures { λ r. ⌜ told r ≡ callStep base (view self) (slot .0) (number .0) kind argument ⌝ }
+    {
+        let s = (slot.0 % SLOTS) as usize;
+        let o = (number.0 % OBJECTS) as usize;
+        let from = s * 24;
+        let mut doomed = false;
+        let mut at: usize = 0;
+        while at < 24 {
+            let pair = self.pairs[from + at];
+            doomed = plans::either(doomed, pair.spoiled);
+            at = at + 1;
+        }
+        let pair = self.pairs[from + o];
+        let object = self.objects[o];
+        let live = self.live[s];
+        let plan = plans::call(slot, number, kind, argument, live, doomed, pair, object);
+        let next = plan.object;
+        let next_pair = plan.pair;
+        let answer = plan.answer;
+        self.objects[o] = next;
+        self.pairs[from + o] = next_pair;
+        Stepped {
+            tables: self,
+            answer,
+        }
+    }
+
+    // The object is let go.
+    pub fn release(mut self, slot: SlotNo, number: ObjectNo) -> Stepped
+        ensures { λ r. ⌜ told r ≡ releaseStep base (view self) (slot .0) (number .0) ⌝ }
+    {
+        let s = (slot.0 % SLOTS) as usize;
+        let o = (number.0 % OBJECTS) as usize;
+        let pair = self.pairs[s * 24 + o];
+        let object = self.objects[o];
+        let live = self.live[s];
+        let plan = plans::release(slot, number, live, pair, object);
+        let next = plan.object;
+        let answer = plan.answer;
+        self.objects[o] = next;
+        Stepped {
+            tables: self,
+            answer,
+        }
+    }
+}

@@ -1,0 +1,240 @@
+// One object and one pair, and what each event does to one place: the leaves that every step is made of.
+
+ghost use mathlib.Core.Path.{_≡_};
+ghost use Rattle.counters.specs.Sizes.{base};
+ghost use Rattle.objects.specs.Places.{turnOf, givenOut, letGo, ended, restored, restores, declaredWith, countAfter, reaches, calledPair, calledObject, spoiledPair, noPair};
+
+pub mod kinds;
+
+use counters::CallCount;
+use counters::SLOTS;
+use counters::Turn;
+use counters::Version;
+
+// Per object: a word and three versions, the last given out, the last let go and the last ended.
+pub struct Object {
+    pub word: u32,
+    pub global: Version,
+    pub local: Version,
+    pub terminal: Version,
+}
+
+// Per slot and object.
+pub struct Pair {
+    pub declared: bool,
+    pub supremum: u8,
+    pub private: Version,
+    pub count: CallCount,
+    pub called: bool,
+    pub spoiled: bool,
+    pub saved: u32,
+}
+
+impl Object {
+    // The global version rises by one.
+    pub fn give_out(self) -> Object
+        ensures { λ r. ⌜ r ≡ givenOut self ⌝ }
+    {
+        let global = self.global.next();
+        let local = self.local;
+        let terminal = self.terminal;
+        Object {
+            word: self.word,
+            global,
+            local,
+            terminal,
+        }
+    }
+
+    // The local version becomes the private version.
+    pub fn let_go(self, private: Version) -> Object
+        ensures { λ r. ⌜ r ≡ letGo private self ⌝ }
+    {
+        let global = self.global;
+        let terminal = self.terminal;
+        Object {
+            word: self.word,
+            global,
+            local: private,
+            terminal,
+        }
+    }
+
+    // Let go unless d says Released, and the terminal version becomes the private version.
+    pub fn end(self, pair: Pair) -> Object
+        ensures { λ r. ⌜ r ≡ ended (base .slots) pair self ⌝ }
+    {
+        let private = pair.private;
+        let global = self.global;
+        let local = self.local;
+        match pair.turn(self) {
+            Turn::Now => Object {
+                word: self.word,
+                global,
+                local: private,
+                terminal: private,
+            },
+            Turn::Wait => Object {
+                word: self.word,
+                global,
+                local: private,
+                terminal: private,
+            },
+            Turn::Released => Object {
+                word: self.word,
+                global,
+                local,
+                terminal: private,
+            },
+        }
+    }
+
+    // The word becomes the saved word.
+    pub fn restore(self, pair: Pair) -> Object
+        ensures { λ r. ⌜ r ≡ restored pair self ⌝ }
+    {
+        let global = self.global;
+        let local = self.local;
+        let terminal = self.terminal;
+        Object {
+            word: pair.saved,
+            global,
+            local,
+            terminal,
+        }
+    }
+
+    // What an accepted call does to the object: the kind acts, and at the supremum the object is let go.
+    pub fn call(self, pair: Pair, kind: u8, argument: u32) -> Object
+        ensures { λ r. ⌜ r ≡ calledObject kind argument pair self ⌝ }
+    {
+        let word = kinds::act(kind, self.word, argument).word;
+        let global = self.global;
+        let terminal = self.terminal;
+        if pair.reaches() {
+            let private = pair.private;
+            return Object {
+                word,
+                global,
+                local: private,
+                terminal,
+            };
+        }
+        let local = self.local;
+        Object {
+            word,
+            global,
+            local,
+            terminal,
+        }
+    }
+}
+
+impl Pair {
+    // A pair of a slot that is not live.
+    pub fn none() -> Pair
+        ensures { λ r. ⌜ r ≡ noPair ⌝ }
+    {
+        Pair {
+            declared: false,
+            supremum: 0,
+            private: Version(0),
+            count: CallCount(0),
+            called: false,
+            spoiled: false,
+            saved: 0,
+        }
+    }
+
+    // A pair as a start leaves it.
+    pub fn declare(supremum: u8, private: Version) -> Pair
+        ensures { λ r. ⌜ r ≡ declaredWith supremum private ⌝ }
+    {
+        Pair {
+            declared: true,
+            supremum,
+            private,
+            count: CallCount(0),
+            called: false,
+            spoiled: false,
+            saved: 0,
+        }
+    }
+
+    pub fn turn(self, object: Object) -> Turn
+        ensures { λ r. ⌜ r ≡ turnOf (base .slots) self object ⌝ }
+    {
+        let local = object.local;
+        self.private.turn(local, SLOTS)
+    }
+
+    // The count after one more call: unless the supremum is 0 it rises by one, modulo 256.
+    fn count_after(self) -> u8
+        ensures { λ r. ⌜ r ≡ countAfter self ⌝ }
+    {
+        let count = self.count;
+        if self.supremum == 0 {
+            return count.0;
+        }
+        std::num::wrapping_add_u8(count.0, 1)
+    }
+
+    // Whether one more call reaches the supremum.
+    pub fn reaches(self) -> bool
+        ensures { λ r. ⌜ r ≡ reaches self ⌝ }
+    {
+        if self.supremum == 0 {
+            return false;
+        }
+        self.count_after() == self.supremum
+    }
+
+    // What an accepted call does to the pair: on the first call the word is saved; the count rises.
+    pub fn call(self, object: Object) -> Pair
+        ensures { λ r. ⌜ r ≡ calledPair self object ⌝ }
+    {
+        let private = self.private;
+        let count = CallCount(self.count_after());
+        let mut next = Pair {
+            declared: self.declared,
+            supremum: self.supremum,
+            private,
+            count,
+            called: true,
+            spoiled: self.spoiled,
+            saved: self.saved,
+        };
+        if !self.called {
+            next.saved = object.word;
+        }
+        next
+    }
+
+    // Whether a rollback puts the saved word back.
+    pub fn restores(self) -> bool
+        ensures { λ r. ⌜ r ≡ restores self ⌝ }
+    {
+        if self.declared {
+            if self.called {
+                return !self.spoiled;
+            }
+        }
+        false
+    }
+
+    pub fn spoil(self) -> Pair
+        ensures { λ r. ⌜ r ≡ spoiledPair self ⌝ }
+    {
+        let private = self.private;
+        let count = self.count;
+        Pair {
+            declared: self.declared,
+            supremum: self.supremum,
+            private,
+            count,
+            called: self.called,
+            spoiled: true,
+            saved: self.saved,
+        }
+    }
+}

@@ -1,0 +1,3 @@
+pub mod Saying
+pub mod Planned
+pub mod Placed

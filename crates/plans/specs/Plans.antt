@@ -1,0 +1,43 @@
+-- What an event on one place comes to, seen from that place alone.
+use Prim.Native.Nat.{ℕ}
+use mathlib.Core.Bool.{Bool, not}
+use mathlib.Core.List.{List, [], _∷_}
+use lib.Dec.{leb}
+use Rattle.answers.specs.Order.{Rule, decide, _when_}
+use Rattle.answers.specs.declared.Refusal.the-variants.{BadSlot, BadObject, Idle, NotDeclared, Released, Wait}
+use Rattle.answers.specs.declared.Answer.the-variants.{Accepted, Refused}
+use Rattle.counters.specs.Sizes.{Size}
+use Rattle.objects.specs.Kinds.{acted}
+use Rattle.objects.specs.Places.{turnOf, saysReleased, saysWait, calledObject, calledPair, letGo}
+use Rattle.objects.specs.declared.Object.{Object}
+use Rattle.objects.specs.declared.Pair.{Pair}
+use Rattle.rules.specs.Refusing.{callRules, releaseRules}
+use Rattle.plans.specs.declared.Plan.{Plan}
+
+-- the rules that a call and a release share: whether there is such a pair, and whether it is its turn
+abbrev pub placeRules : Size → ℕ → ℕ → Bool → Pair → List Rule
+placeRules z slot number live pair =
+    BadSlot when leb (z .slots) slot
+    ∷ Idle when not live
+    ∷ BadObject when leb (z .objects) number
+    ∷ NotDeclared when not (pair .declared)
+    ∷ []
+
+abbrev pub turnRules : Size → Pair → Object → List Rule
+turnRules z pair object = Released when saysReleased (turnOf (z .slots) pair object) ∷ Wait when saysWait (turnOf (z .slots) pair object) ∷ []
+
+abbrev pub callPlan : Size → ℕ → ℕ → ℕ → ℕ → Bool → Bool → Pair → Object → Plan
+callPlan z slot number kind argument live doomed pair object =
+    decide (callRules z slot number kind live doomed pair object)
+    (λ refusal. record { answer = Refused refusal; object = object; pair = pair })
+    (record {
+      answer = Accepted (acted kind (object .word) argument .answer);
+      object = calledObject kind argument pair object;
+      pair = calledPair pair object;
+    })
+
+abbrev pub releasePlan : Size → ℕ → ℕ → Bool → Pair → Object → Plan
+releasePlan z slot number live pair object =
+    decide (releaseRules z slot number live pair object)
+    (λ refusal. record { answer = Refused refusal; object = object; pair = pair })
+    (record { answer = Accepted 0; object = letGo (pair .private) object; pair = pair })

@@ -1,0 +1,77 @@
+// What an event on one place comes to: the answer, and the object and the pair as they shall be, unchanged where it is
+// refused.
+ghost use mathlib.Core.Bool.{_||_};
+ghost use mathlib.Core.Path.{_≡_};
+ghost use Rattle.counters.specs.Sizes.{base};
+ghost use Rattle.plans.specs.Plans.{callPlan, releasePlan};
+
+pub mod verdicts;
+
+use crate::verdicts::Verdict;
+use answers::Answer;
+use counters::ObjectNo;
+use counters::SlotNo;
+use objects::Object;
+use objects::Pair;
+
+pub struct Plan {
+    pub answer: Answer,
+    pub object: Object,
+    pub pair: Pair,
+}
+
+pub fn call(
+    slot: SlotNo,
+    number: ObjectNo,
+    kind: u8,
+    argument: u32,
+    live: bool,
+    doomed: bool,
+    pair: Pair,
+    object: Object,
+) -> Plan
+    ensures { λ r. ⌜ r ≡ callPlan base (slot .0) (number .0) kind argument live doomed pair object ⌝ }
+{
+    match verdicts::call(slot, number, kind, live, doomed, pair, object) {
+        Verdict::Passes => {
+            let acted = objects::kinds::act(kind, object.word, argument);
+            Plan {
+                answer: Answer::Accepted(acted.answer),
+                object: object.call(pair, kind, argument),
+                pair: pair.call(object),
+            }
+        }
+        Verdict::Refuses(refusal) => Plan {
+            answer: Answer::Refused(refusal),
+            object,
+            pair,
+        },
+    }
+}
+
+pub fn release(slot: SlotNo, number: ObjectNo, live: bool, pair: Pair, object: Object) -> Plan
+    ensures { λ r. ⌜ r ≡ releasePlan base (slot .0) (number .0) live pair object ⌝ }
+{
+    match verdicts::release(slot, number, live, pair, object) {
+        Verdict::Passes => {
+            let private = pair.private;
+            Plan {
+                answer: Answer::Accepted(0),
+                object: object.let_go(private),
+                pair,
+            }
+        }
+        Verdict::Refuses(refusal) => Plan {
+            answer: Answer::Refused(refusal),
+            object,
+            pair,
+        },
+    }
+}
+
+// a or b, with no branch for a caller's loop to join.
+pub fn either(a: bool, b: bool) -> bool
+    ensures { λ r. ⌜ r ≡ (a || b) ⌝ }
+{
+    if a { true } else { b }
+}

@@ -1,0 +1,178 @@
+-- Each refusal is given exactly where its rule holds and no earlier one does, and an event is accepted exactly where no rule holds.
+use Prim.Native.Nat.{ℕ, _+_}
+use mathlib.Core.Bool.{Bool, true, false}
+use mathlib.Core.List.{List, [], _∷_, _++_, map}
+use mathlib.Core.Logic.{_⊎_, inl, inr, _≢_, _↔_}
+use mathlib.Core.Path.{_≡_, refl, ap, sym, _∙_}
+use native.Mathlib.Omega.{arith}
+use lib.ListN.{length, drop}
+use lib.Dec.{ltb}
+use Rattle.answers.specs.Numbers.{accepted, numberOf}
+use Rattle.answers.specs.Order.{Rule, decide}
+use Rattle.answers.specs.declared.Refusal.{Refusal}
+use Rattle.answers.specs.declared.Refusal.the-variants.{BadSlot, BadObject, BadList, Busy, Idle, NotDeclared, BadCall, Released, Doomed, Wait, NoRoom, BadRecord}
+use Rattle.answers.proofs.Deciding.{Passes, passed}
+use Rattle.counters.specs.Sizes.{Size}
+use Rattle.objects.specs.Kinds.{acted}
+use Rattle.rules.specs.Tables.{State, objectAt, liveAt, pairAt}
+use Rattle.rules.specs.Refusing.{doomed, unmet, pairRules, startRules, callRules, releaseRules, endRules}
+use Rattle.rules.specs.Effects.{startEffect, callEffect, releaseEffect, endEffect, endRecord}
+use Rattle.rules.specs.Steps.{unchanged, beside, startStep, callStep, releaseStep, endStep}
+
+-- a rule with this number holds and all rules before it pass
+pub record FirstOf (rules : List Rule) (number : ℕ) : Type 0 where
+  pub earlier : List Rule
+  pub rule : Rule
+  pub later : List Rule
+  pub all : rules ≡ earlier ++ rule ∷ later
+  pub passes : Passes earlier
+  pub holds : rule .holds ≡ true
+  pub gives : numberOf (rule .refusal) ≡ number
+
+-- every list of rules passes, or one rule is the first that holds
+one-first : (rules : List Rule) → Passes rules ⊎ ((number : ℕ) × FirstOf rules number)
+one-first [] = inl tt
+one-first (rule ∷ rules) = by (rule .holds) refl (one-first rules)
+  where
+    behind : rule .holds ≡ false → Passes rules ⊎ ((number : ℕ) × FirstOf rules number) → Passes (rule ∷ rules) ⊎ ((number : ℕ) × FirstOf (rule ∷ rules) number)
+    behind e (inl p) = inl (e, p)
+    behind e (inr found) =
+        let first : FirstOf rules (found .0) = found .1 in
+        inr (
+          found .0,
+          record {
+            earlier = rule ∷ first .earlier;
+            rule = first .rule;
+            later = first .later;
+            all = ap (λ (l : List Rule). rule ∷ l) (first .all);
+            passes = (e, first .passes);
+            holds = first .holds;
+            gives = first .gives;
+          },
+        )
+
+    by : (t : Bool) → rule .holds ≡ t → Passes rules ⊎ ((number : ℕ) × FirstOf rules number) → Passes (rule ∷ rules) ⊎ ((number : ℕ) × FirstOf (rule ∷ rules) number)
+    by true e rest = inr (numberOf (rule .refusal), record { earlier = []; rule = rule; later = rules; all = refl; passes = tt; holds = e; gives = refl })
+    by false e rest = behind e rest
+
+-- the first rule that holds decides
+first-decides : {A : Type 0} (earlier : List Rule) (rule : Rule) (later : List Rule) (refused : Refusal → A) (accepted : A)
+    → Passes earlier → rule .holds ≡ true → decide (earlier ++ rule ∷ later) refused accepted ≡ refused (rule .refusal)
+first-decides [] rule later refused accepted passes holds = rw holds
+first-decides (one ∷ earlier) rule later refused accepted passes holds =
+    rw (passes .0) (first-decides earlier rule later refused accepted (passes .1) holds)
+
+number-not-zero : (refusal : Refusal) → numberOf refusal ≢ 0
+number-not-zero BadSlot = omega arith
+number-not-zero BadObject = omega arith
+number-not-zero BadList = omega arith
+number-not-zero Busy = omega arith
+number-not-zero Idle = omega arith
+number-not-zero NotDeclared = omega arith
+number-not-zero BadCall = omega arith
+number-not-zero Released = omega arith
+number-not-zero Doomed = omega arith
+number-not-zero Wait = omega arith
+number-not-zero NoRoom = omega arith
+number-not-zero BadRecord = omega arith
+
+-- the numbers that the rules of a list give, in order
+abbrev pub numbers : List Rule → List ℕ
+numbers rules = map (λ rule. numberOf (rule .refusal)) rules
+
+-- the number that comes back, by rules whose numbers stand in this order
+pub record Exact (rules : List Rule) (order : List ℕ) (number : ℕ) : Type 0 where
+  pub in-order : numbers rules ≡ order
+  pub accepts : (number ≡ 0) ↔ Passes rules
+  pub refuses : (n : ℕ) → n ≢ 0 → (number ≡ n) ↔ FirstOf rules n
+
+-- of any list of rules, where what is given back has the number of the refusal, and 0 where it is accepted
+pub decided-exactly : {A : Type 0} (number : A → ℕ) (rules : List Rule) (order : List ℕ) (refused : Refusal → A) (accepted : A)
+    → numbers rules ≡ order → ((refusal : Refusal) → number (refused refusal) ≡ numberOf refusal) → number accepted ≡ 0
+    → Exact rules order (number (decide rules refused accepted))
+decided-exactly number rules order refused accepted in-order tells zero =
+    record {
+      in-order = in-order;
+      accepts = (accepts (one-first rules), all-pass);
+      refuses = λ n other. (refuses n other (one-first rules), given n);
+    }
+  where
+    given : (n : ℕ) → FirstOf rules n → number (decide rules refused accepted) ≡ n
+    given n f =
+        ap (λ (l : List Rule). number (decide l refused accepted)) (f .all)
+        ∙ ap number (first-decides (f .earlier) (f .rule) (f .later) refused accepted (f .passes) (f .holds))
+        ∙ tells (f .rule .refusal)
+        ∙ f .gives
+
+    all-pass : Passes rules → number (decide rules refused accepted) ≡ 0
+    all-pass p = ap number (passed rules refused accepted p) ∙ zero
+
+    accepts : Passes rules ⊎ ((n : ℕ) × FirstOf rules n) → number (decide rules refused accepted) ≡ 0 → Passes rules
+    accepts (inl p) e = p
+    accepts (inr f) e = absurd (number-not-zero (f .1 .rule .refusal) (f .1 .gives ∙ sym (given (f .0) (f .1)) ∙ e))
+
+    refuses : (n : ℕ) → n ≢ 0 → Passes rules ⊎ ((n : ℕ) × FirstOf rules n) → number (decide rules refused accepted) ≡ n → FirstOf rules n
+    refuses n other (inl p) e = absurd (other (sym e ∙ all-pass p))
+    refuses n other (inr f) e = rw (sym (given (f .0) (f .1)) ∙ e) at (f .1)
+
+-- 'then its pairs from the first: object too large (2), not above the one before (3)'
+abbrev pub pairOrder : List ℕ → List ℕ
+pairOrder (object ∷ supremum ∷ rest) = 2 ∷ 3 ∷ pairOrder rest
+pairOrder (object ∷ []) = []
+pairOrder [] = []
+
+pairs-in-order : (z : Size) (least : ℕ) (list : List ℕ) → numbers (pairRules z least list) ≡ pairOrder list
+pairs-in-order z least (object ∷ supremum ∷ rest) = ap (λ (l : List ℕ). 2 ∷ 3 ∷ l) (pairs-in-order z (object + 1) rest)
+pairs-in-order z least (object ∷ []) = refl
+pairs-in-order z least [] = refl
+
+module _ (z : Size) (t : State) where
+  step-exactly : (rules : List Rule) (order : List ℕ) (effect : State) (value : ℕ) → numbers rules ≡ order
+      → Exact rules order (decide rules (unchanged t) (record { tables = effect; reply = accepted value }) .reply .number)
+  step-exactly rules order effect value in-order =
+      decided-exactly (λ stepping. stepping .reply .number) rules order (unchanged t) (record { tables = effect; reply = accepted value })
+      in-order (λ refusal. refl) refl
+
+  -- 'Start: 1, 4, then the list's length (3), then its pairs'
+  pub start-exactly : (s : ℕ) (list : List ℕ)
+      → Exact (startRules z s (liveAt t s) list) (1 ∷ 4 ∷ 3 ∷ pairOrder list) (startStep z t s list .reply .number)
+  start-exactly s list =
+      step-exactly (startRules z s (liveAt t s) list) (1 ∷ 4 ∷ 3 ∷ pairOrder list) (startEffect z s list t) 0
+      (ap (λ (l : List ℕ). 1 ∷ 4 ∷ 3 ∷ l) (pairs-in-order z 0 list))
+
+  -- 'Call: 1, 5, 2, 6, 7, 9, 8, 10.'
+  pub call-exactly : (s o kind argument : ℕ)
+      → Exact (callRules z s o kind (liveAt t s) (doomed z t s) (pairAt z t s o) (objectAt t o)) (1 ∷ 5 ∷ 2 ∷ 6 ∷ 7 ∷ 9 ∷ 8 ∷ 10 ∷ [])
+      (callStep z t s o kind argument .reply .number)
+  call-exactly s o kind argument =
+      step-exactly (callRules z s o kind (liveAt t s) (doomed z t s) (pairAt z t s o) (objectAt t o)) (1 ∷ 5 ∷ 2 ∷ 6 ∷ 7 ∷ 9 ∷ 8 ∷ 10 ∷ [])
+      (callEffect z s o kind argument t) (acted kind (objectAt t o .word) argument .answer) refl
+
+  -- 'Release: 1, 5, 2, 6, 8, 10.'
+  pub release-exactly : (s o : ℕ)
+      → Exact (releaseRules z s o (liveAt t s) (pairAt z t s o) (objectAt t o)) (1 ∷ 5 ∷ 2 ∷ 6 ∷ 8 ∷ 10 ∷ []) (releaseStep z t s o .reply .number)
+  release-exactly s o =
+      step-exactly (releaseRules z s o (liveAt t s) (pairAt z t s o) (objectAt t o)) (1 ∷ 5 ∷ 2 ∷ 6 ∷ 8 ∷ 10 ∷ []) (releaseEffect z s o t) 0 refl
+
+  -- the rules of an end: its record is too long for the buffer where `ltb` says so
+  abbrev pub rulesOfEnd : Bool → ℕ → ℕ → List ℕ → List Rule
+  rulesOfEnd rollback s tick buffer =
+      endRules z rollback s (liveAt t s) (doomed z t s) (unmet z t s) (ltb (length buffer) (length (endRecord z rollback s tick t)))
+
+  end-exactly : (rollback : Bool) (s tick : ℕ) (buffer order : List ℕ) → numbers (rulesOfEnd rollback s tick buffer) ≡ order
+      → Exact (rulesOfEnd rollback s tick buffer) order (endStep z rollback t s tick buffer .reply .number)
+  end-exactly rollback s tick buffer order in-order =
+      let written : List ℕ = endRecord z rollback s tick t in
+      decided-exactly (λ outcome. outcome .reply .number) (rulesOfEnd rollback s tick buffer) order (λ refusal. beside buffer (unchanged t refusal))
+      (record { tables = endEffect z rollback s t; reply = accepted (length written); buffer = written ++ drop (length written) buffer })
+      in-order (λ refusal. refl) refl
+
+  -- 'Commit: 1, 5, 9, 10, 11.'
+  pub commit-exactly : (s tick : ℕ) (buffer : List ℕ)
+      → Exact (rulesOfEnd false s tick buffer) (1 ∷ 5 ∷ 9 ∷ 10 ∷ 11 ∷ []) (endStep z false t s tick buffer .reply .number)
+  commit-exactly s tick buffer = end-exactly false s tick buffer (1 ∷ 5 ∷ 9 ∷ 10 ∷ 11 ∷ []) refl
+
+  -- 'Rollback: 1, 5, 10, 11.'
+  pub rollback-exactly : (s tick : ℕ) (buffer : List ℕ)
+      → Exact (rulesOfEnd true s tick buffer) (1 ∷ 5 ∷ 10 ∷ 11 ∷ []) (endStep z true t s tick buffer .reply .number)
+  rollback-exactly s tick buffer = end-exactly true s tick buffer (1 ∷ 5 ∷ 10 ∷ 11 ∷ []) refl

@@ -1,0 +1,10 @@
+pub mod SessionW
+pub mod Picking
+pub mod Stores
+pub mod Walking
+pub mod Refused
+pub mod Exactly
+pub mod Cleared
+pub mod Started
+pub mod Restored
+pub mod Ended

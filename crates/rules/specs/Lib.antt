@@ -1,0 +1,5 @@
+pub mod Tables
+pub mod Walks
+pub mod Refusing
+pub mod Effects
+pub mod Steps
