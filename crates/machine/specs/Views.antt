@@ -1,7 +1,9 @@
 -- The machine's tables as the rules see them, and what a step gives back.
 use Rattle.answers.specs.Numbers.{replyOf}
 use Rattle.rules.specs.Tables.{State}
-use Rattle.rules.specs.Steps.{Stepping}
+use Prim.Native.Nat.{ℕ}
+use mathlib.Core.List.{List}
+use Rattle.rules.specs.Steps.{Stepping, Outcome}
 use Rattle.machine.specs.declared.Tables.{Tables}
 use Rattle.machine.specs.declared.Stepped.{Stepped}
 
@@ -10,3 +12,7 @@ view t = record { objects = t .objects; live = t .live; pairs = t .pairs }
 
 abbrev pub told : Stepped → Stepping
 told r = record { tables = view (r .tables); reply = replyOf (r .answer) }
+
+-- the same with the buffer that was lent
+abbrev pub ended : Stepped → List ℕ → Outcome
+ended r buffer = record { tables = view (r .tables); reply = replyOf (r .answer); buffer = buffer }

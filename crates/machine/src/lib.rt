@@ -4,6 +4,11 @@ ghost use Rattle.counters.specs.Sizes.{base};
 ghost use Rattle.rules.specs.Tables.{freshTables};
 ghost use Rattle.rules.specs.Steps.{callStep, releaseStep, startStep, endStep, eventStep, recordStep};
 ghost use Rattle.machine.specs.Views.{view, told};
+
+pub mod ending;
+pub mod starting;
+pub mod stepping;
+
 use answers::Answer;
 use answers::Refusal;
 use counters::OBJECTS;

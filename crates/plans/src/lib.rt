@@ -5,6 +5,8 @@ ghost use mathlib.Core.Path.{_≡_};
 ghost use Rattle.counters.specs.Sizes.{base};
 ghost use Rattle.plans.specs.Plans.{callPlan, releasePlan};
 
+pub mod ending;
+pub mod starting;
 pub mod verdicts;
 
 use crate::verdicts::Verdict;

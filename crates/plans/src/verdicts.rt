@@ -4,7 +4,9 @@ ghost use Rattle.answers.specs.Order.{decide};
 ghost use Rattle.counters.specs.Sizes.{base};
 ghost use Rattle.rules.specs.Refusing.{callRules, releaseRules};
 ghost use Rattle.plans.specs.Plans.{placeRules, turnRules};
+ghost use Rattle.plans.specs.Verdicts.{answerOf, reachOf, passesOf};
 ghost use Rattle.plans.specs.declared.verdicts.Verdict.the-variants.{Passes, Refuses};
+use answers::Answer;
 use answers::Refusal;
 use counters::OBJECTS;
 use counters::ObjectNo;
@@ -17,6 +19,37 @@ use objects::Pair;
 pub enum Verdict {
     Passes,
     Refuses(Refusal),
+}
+
+impl Verdict {
+    // Accepted with the value where it passes.
+    pub fn answer(self, value: u32) -> Answer
+        ensures { λ r. ⌜ r ≡ answerOf self value ⌝ }
+    {
+        match self {
+            Verdict::Passes => Answer::Accepted(value),
+            Verdict::Refuses(refusal) => Answer::Refused(refusal),
+        }
+    }
+
+    // How far a loop of the event goes: all the way where it passes, and no turn where it refuses.
+    pub fn reach(self, all: usize) -> usize
+        ensures { λ r. ⌜ r ≡ reachOf self all ⌝ }
+    {
+        match self {
+            Verdict::Passes => all,
+            Verdict::Refuses(_) => 0,
+        }
+    }
+
+    pub fn passes(self) -> bool
+        ensures { λ r. ⌜ r ≡ passesOf self ⌝ }
+    {
+        match self {
+            Verdict::Passes => true,
+            Verdict::Refuses(_) => false,
+        }
+    }
 }
 
 // Call: 1, 5, 2, 6, 7, 9, 8, 10.

@@ -1,3 +1,4 @@
 pub mod Frames
 pub mod Products
 pub mod Readings
+pub mod Refusing

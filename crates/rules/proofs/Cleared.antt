@@ -6,7 +6,6 @@ use borrow.Author.Tests.{eq-eqb, ne-eqb}
 use Rattle.answers.specs.Order.{pick}
 use Rattle.counters.specs.Sizes.{Size}
 use Rattle.objects.specs.Places.{noPair}
-use Rattle.objects.specs.declared.Pair.{Pair}
 use Rattle.rules.specs.Tables.{State, pairAt, withPair}
 use Rattle.rules.specs.Effects.{clearSlot}
 use Rattle.rules.proofs.Picking.{and-false, and-true}
@@ -14,6 +13,7 @@ use Rattle.rules.proofs.Stores.{Sized, pair-after, sized-pair}
 use Rattle.rules.proofs.Walking.{each-keeps, each-sees}
 
 module _ (z : Size) (t : State) (s : ℕ) where
+  -- the objects, the live marks and the sizes stay
   pub clear-objects : clearSlot z s t .objects ≡ t .objects
   clear-objects = each-keeps (λ u. u .objects ≡ t .objects) (λ o u. withPair z u s o noPair) t refl (z .objects) (λ o u below same. same)
 

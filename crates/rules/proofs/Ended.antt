@@ -14,7 +14,7 @@ use Rattle.objects.specs.declared.Pair.{Pair}
 use Rattle.rules.specs.Tables.{State, noObject, objectAt, liveAt, pairAt, withObject}
 use Rattle.rules.specs.Walks.{eachBelow}
 use Rattle.rules.specs.Effects.{clearSlot, restoreOne, endOne, endTurn, endEffect}
-use Rattle.rules.proofs.Picking.{and-false, and-true, pick-when, pick-seen, pick-same, pick-both, pick-moved}
+use Rattle.rules.proofs.Picking.{and-false, and-true, pick-when, pick-seen, pick-both, pick-moved}
 use Rattle.rules.proofs.Stores.{Sized, object-after, live-after, sized-object, sized-live}
 use Rattle.rules.proofs.Walking.{Keeps, each-keeps, each-sees}
 use Rattle.rules.proofs.Cleared.{clear-objects, clear-live, clear-sized, clear-pairs}
@@ -136,6 +136,7 @@ module _ (z : Size) (t : State) (sized : Sized z t) (rollback : Bool) (s : ℕ) 
       ∙ rw (ne-eqb q o (λ same. apart (sym same)), and-false (restores (pairAt z u s o)), and-false rollback))
       (λ u kept. turn-pairs z s rollback q below u (kept .sized) r q slot below ∙ rw (eq-eqb q q refl, kept .own q below, kept .live))
 
+  -- the effect of an end, place by place
   pub end-effect : s < z .slots → Ended z rollback s t (endEffect z rollback s t)
   unfolding every
   end-effect slot =

@@ -4,7 +4,13 @@ pub mod Stores
 pub mod Walking
 pub mod Refused
 pub mod Exactly
+pub mod Facts
+pub mod Accepted
+pub mod Called
 pub mod Cleared
 pub mod Started
 pub mod Restored
 pub mod Ended
+pub mod Leaves
+pub mod EndLeaves
+pub mod SizesKept

@@ -1,9 +1,10 @@
 -- Laws of tests and of what they pick.
 use Prim.Native.Nat.{ℕ}
-use mathlib.Core.Bool.{Bool, true, false, _&&_}
+use mathlib.Core.Bool.{Bool, true, false, _&&_, _||_}
 use mathlib.Core.Path.{_≡_, refl, sym, ap}
 use Rattle.answers.specs.Order.{pick}
 
+-- a test beside one that is known
 pub and-false : (a : Bool) → a && false ≡ false
 and-false true = refl
 and-false false = refl
@@ -11,6 +12,14 @@ and-false false = refl
 pub and-true : (a : Bool) → a && true ≡ a
 and-true true = refl
 and-true false = refl
+
+pub or-true : (a : Bool) → a || true ≡ true
+or-true true = refl
+or-true false = refl
+
+pub or-false : (a : Bool) → a || false ≡ a
+or-false true = refl
+or-false false = refl
 
 -- both parts of a test that holds
 pub both-true : (a b : Bool) → a && b ≡ true → (a ≡ true) × (b ≡ true)
@@ -27,6 +36,7 @@ pub pick-seen : {A B : Type 0} (see : A → B) (test : Bool) (a b : A) → see (
 pick-seen see true a b = refl
 pick-seen see false a b = refl
 
+-- both alike
 pub pick-same : {A : Type 0} (test : Bool) (a : A) → pick test a a ≡ a
 pick-same true a = refl
 pick-same false a = refl

@@ -1,17 +1,14 @@
 -- What is read after one object is restored: its word, and which other slots become spoiled on it.
 use Prim.Native.Nat.{ℕ, _<_}
 use mathlib.Core.Bool.{Bool, true, false, not, _&&_}
-use mathlib.Core.List.{List}
-use mathlib.Core.Path.{_≡_, refl, sym, ap, _∙_}
+use mathlib.Core.Path.{_≡_, refl, sym, _∙_}
 use lib.Dec.{eqb}
-use lib.ListN.{getD}
 use borrow.Author.Tests.{eqb-true, eqb-false, eq-eqb, ne-eqb, not-true}
 use Rattle.answers.specs.Order.{pick}
 use Rattle.counters.specs.Sizes.{Size}
 use Rattle.objects.specs.Places.{restores, restored, spoiledPair}
-use Rattle.objects.specs.declared.Object.{Object}
 use Rattle.objects.specs.declared.Pair.{Pair}
-use Rattle.rules.specs.Tables.{State, noObject, objectAt, liveAt, pairAt, withObject, withPair}
+use Rattle.rules.specs.Tables.{State, objectAt, liveAt, pairAt, withObject, withPair}
 use Rattle.rules.specs.Effects.{spoilOne, spoilOthers, restoreOne}
 use Rattle.rules.proofs.Picking.{both-true, pick-when, pick-seen, pick-same, pick-both, pick-moved}
 use Rattle.rules.proofs.Stores.{Sized, pair-after, object-after, sized-pair, sized-object}
@@ -95,6 +92,7 @@ module _ (z : Size) (t : State) (sized : Sized z t) (s o : ℕ) (inside : o < z 
   unfolding with-word
   with-word-sized = sized-object z t sized o (restored (pairAt z t s o) (objectAt t o))
 
+  -- the sizes, the live marks and the slot's own pairs stay
   pub restore-keeps : Underway z s t (restoreOne z s o t)
   unfolding with-word
   restore-keeps =
@@ -118,6 +116,7 @@ module _ (z : Size) (t : State) (sized : Sized z t) (s o : ℕ) (inside : o < z 
       )
       (pick-both (restores pair) (eqb q o) (restored pair (objectAt t q)) (objectAt t q))
 
+  -- and others that have called become spoiled
   pub restore-pairs : (r q : ℕ) → r < z .slots → q < z .objects
       → pairAt z (restoreOne z s o t) r q
       ≡ pick (restores (pairAt z t s o) && (eqb q o && hasCalled z t s r q)) (spoiledPair (pairAt z t r q)) (pairAt z t r q)

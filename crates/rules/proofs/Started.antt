@@ -2,7 +2,7 @@
 use Prim.Native.Nat.{ℕ, _+_, _<_, _≤_}
 use mathlib.Core.Bool.{Bool, true, false, _&&_, _||_}
 use mathlib.Core.List.{List, [], _∷_}
-use mathlib.Core.Path.{_≡_, refl, sym, ap, _∙_}
+use mathlib.Core.Path.{_≡_, refl, ap, _∙_}
 use native.Mathlib.Omega.{arith}
 use lib.Dec.{eqb}
 use lib.ListN.{getD}
@@ -114,6 +114,7 @@ pub record Started (z : Size) (s : ℕ) (list : List ℕ) (t u : State) : Type 0
       ≡ pick (eqb r s) (pick (names list q) (declaredWith (supremumOf list q) (givenOut (objectAt t q) .global)) noPair) (pairAt z t r q)
   pub live : (r : ℕ) → liveAt u r ≡ pick (eqb r s) true (liveAt t r)
 
+-- the effect of a start, place by place
 pub start-effect : (z : Size) (t : State) (s : ℕ) (list : List ℕ) → Sized z t → s < z .slots → Passes (pairRules z 0 list)
     → Started z s list t (startEffect z s list t)
 start-effect z t s list sized slot passes =

@@ -1,8 +1,9 @@
 -- What is read after one store into the tables. A pair stands at s * objects + o, and no two pairs stand at one place.
-use Prim.Native.Nat.{ℕ, _+_, _*_, _<_, suc}
+use Prim.Native.Nat.{ℕ, _+_, _*_, _<_}
 use mathlib.Core.Bool.{Bool, true, false, _&&_}
 use mathlib.Core.List.{List}
-use mathlib.Core.Path.{_≡_, refl, sym, ap, _∙_}
+use mathlib.Core.Logic.{_≢_}
+use mathlib.Core.Path.{_≡_, refl, ap, _∙_}
 use native.Mathlib.Omega.{arith}
 use native.Mathlib.Nat.{mul-le-mul-right}
 use lib.ListN.{length, getD, set, length-set, length-replicate, length-map}
@@ -73,6 +74,16 @@ module _ (z : Size) (t : State) (sized : Sized z t) where
   pub live-after : (s r : ℕ) (x : Bool) → s < z .slots → liveAt (withLive t s x) r ≡ pick (eqb r s) x (liveAt t r)
   live-after s r x slot = stored (t .live) s r x false (omega (arith, sized .live))
 
+  -- at the place itself
+  pub pair-there : (s o : ℕ) (p : Pair) → s < z .slots → o < z .objects → pairAt z (withPair z t s o p) s o ≡ p
+  pair-there s o p slot object = pair-after s o s o p slot object object ∙ rw (eq-eqb s s refl, eq-eqb o o refl)
+
+  pub object-there : (o : ℕ) (x : Object) → o < z .objects → objectAt (withObject t o x) o ≡ x
+  object-there o x object = object-after o o x object ∙ rw (eq-eqb o o refl)
+
+  pub live-there : (s : ℕ) (x : Bool) → s < z .slots → liveAt (withLive t s x) s ≡ x
+  live-there s x slot = live-after s s x slot ∙ rw (eq-eqb s s refl)
+
   -- every store keeps the sizes
   pub sized-pair : (s o : ℕ) (p : Pair) → Sized z (withPair z t s o p)
   sized-pair s o p =
@@ -83,6 +94,18 @@ module _ (z : Size) (t : State) (sized : Sized z t) where
 
   pub sized-live : (s : ℕ) (x : Bool) → Sized z (withLive t s x)
   sized-live s x = record { objects = sized .objects; live = length-set (t .live) s x ∙ sized .live; pairs = sized .pairs }
+
+-- at any other place, of tables of any size
+pub pair-elsewhere : (z : Size) (t : State) (s o r q : ℕ) (p : Pair) → o < z .objects → q < z .objects → ((r ≡ s) × (q ≡ o) → ⊥)
+    → pairAt z (withPair z t s o p) r q ≡ pairAt z t r q
+pair-elsewhere z t s o r q p object other apart =
+    getD-set-other (t .pairs) (s * z .objects + o) (r * z .objects + q) p noPair (λ same. apart (place-apart (z .objects) r s q o other object same))
+
+pub object-elsewhere : (t : State) (o q : ℕ) (x : Object) → q ≢ o → objectAt (withObject t o x) q ≡ objectAt t q
+object-elsewhere t o q x apart = getD-set-other (t .objects) o q x noObject apart
+
+pub live-elsewhere : (t : State) (s r : ℕ) (x : Bool) → r ≢ s → liveAt (withLive t s x) r ≡ liveAt t r
+live-elsewhere t s r x apart = getD-set-other (t .live) s r x false apart
 
 -- the other columns stay
 pub pair-leaves : (z : Size) (t : State) (s o : ℕ) (p : Pair) → (withPair z t s o p .objects ≡ t .objects) × (withPair z t s o p .live ≡ t .live)

@@ -8,6 +8,7 @@ use native.Mathlib.Omega.{arith}
 use lib.Dec.{eqb}
 use borrow.Author.Tests.{eqb-true, eqb-false}
 use Rattle.rules.specs.Walks.{anyBelow, eachBelow, joinBelow}
+use Rattle.rules.proofs.Picking.{or-true}
 
 module _ (test : ℕ → Bool) where
   -- no turn yet, and one turn more: at suc k, and at k + 1 as a loop counts
@@ -61,10 +62,6 @@ any-met (suc k) test h = by (anyBelow k test) refl (any-met k test)
     by : (earlier : Bool) → anyBelow k test ≡ earlier → (anyBelow k test ≡ true → Met k test) → Met (suc k) test
     by true e below = let m : Met k test = below e in record { number = m .number; below = omega arith; meets = m .meets }
     by false e below = record { number = k; below = omega arith; meets = rw e at h }
-
-or-true : (b : Bool) → b || true ≡ true
-or-true true = refl
-or-true false = refl
 
 pub any-of : (k : ℕ) (test : ℕ → Bool) (j : ℕ) → j < k → test j ≡ true → anyBelow k test ≡ true
 unfolding anyBelow

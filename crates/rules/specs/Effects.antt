@@ -5,7 +5,6 @@ use mathlib.Core.List.{List, [], _∷_}
 use lib.Dec.{eqb}
 use Rattle.answers.specs.Order.{pick}
 use Rattle.counters.specs.Sizes.{Size}
-use Rattle.counters.specs.declared.SlotNo.{SlotNo}
 use Rattle.layout.specs.Bytes.{wordBytes}
 use Rattle.layout.specs.Fields.{recordOf}
 use Rattle.layout.specs.declared.fields.Fields.{Fields}

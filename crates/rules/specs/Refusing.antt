@@ -1,7 +1,7 @@
 -- 'The numbers a task can get back': of each event the rules that refuse it, in the paper's order.
 use Prim.Native.Nat.{ℕ, _+_, _*_, _%_}
 use mathlib.Core.Bool.{Bool, true, false, not, _&&_, _||_}
-use mathlib.Core.List.{List, [], _∷_, _++_}
+use mathlib.Core.List.{List, [], _∷_}
 use lib.ListN.{length}
 use lib.Dec.{leb, ltb, eqb}
 use Rattle.answers.specs.Order.{Rule, _when_}

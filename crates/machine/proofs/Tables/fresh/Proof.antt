@@ -1,9 +1,9 @@
+-- `machine::Tables::fresh` meets its promise.
 use mathlib.Core.Path.{_≡_, refl, sym, ap, _∙_}
 use lib.ListN.{length, getD, take, replicate, length-set}
-use Rattle.objects.specs.declared.Object.{Object}
 use Rattle.objects.specs.declared.Pair.{Pair}
 use borrow.Author.Needs.{needs}
-use Prim.Native.Nat.{ℕ, _≤_, _-_}
+use Prim.Native.Nat.{_≤_, _-_}
 use mathlib.Core.List.{map}
 use native.Mathlib.Omega.{arith}
 use lib.Seq.{take-all}
@@ -12,9 +12,6 @@ use Rattle.rules.specs.Tables.{freshObject}
 use Rattle.machine.proofs.Filling.{filled-on}
 use Rattle.machine.proofs.Tables.fresh.Statement.{statement}
 use Rattle.machine.proofs.Tables.fresh.Tie as tie
-use Rattle.machine.proofs.Tables.fresh.Reads as reads
-use Rattle.machine.proofs.Tables.fresh.Lts as lts
-use Rattle.objects.proofs.Pair.none.Reads as none-reads
 
 abbrev Inv-loop : tie.InvT-loop
 Inv-loop first words tables₀ o₀ tables o =
@@ -27,39 +24,9 @@ Inv-loop first words tables₀ o₀ tables o =
 abbrev μ-loop : tie.MeasureT-loop
 μ-loop first words tables₀ o₀ tables o = base .objects - o
 
--- src/lib.rt:37:13
-none-requires : tie.Need-none-requires Inv-loop μ-loop
-none-requires c κs = search needs
-
--- src/lib.rt:50:9
 loop-holds : tie.Need-loop-holds Inv-loop μ-loop
 loop-holds c = (search needs, refl, refl, refl, refl)
 
--- src/lib.rt:52:23
-mul-t12 : tie.Need-mul-t12 Inv-loop μ-loop
-mul-t12 c = search needs
-
--- src/lib.rt:52:23
-array-read-t15 : tie.Need-array-read-t15 Inv-loop μ-loop
-array-read-t15 c = search needs
-
--- src/lib.rt:51:13
-mul-t17 : tie.Need-mul-t17 Inv-loop μ-loop
-mul-t17 c = search needs
-
--- src/lib.rt:51:13
-element-set-from-tables : tie.Need-element-set-from-tables Inv-loop μ-loop
-element-set-from-tables c = search needs
-
--- src/lib.rt:57:17
-add-o : tie.Need-add-o Inv-loop μ-loop
-add-o c = search needs
-
--- src/lib.rt:50:9
-loop-less : tie.Need-loop-less Inv-loop μ-loop
-loop-less c = search needs
-
--- src/lib.rt:50:9
 loop-again : tie.Need-loop-again Inv-loop μ-loop
 loop-again c =
     let turn = c .before .loop in
@@ -72,7 +39,6 @@ loop-again c =
       turn .inv .4,
     )
 
--- src/lib.rt:34:5
 returns : tie.Need-returns Inv-loop μ-loop
 returns c =
     let left = c .before .loop in
@@ -91,13 +57,13 @@ fresh-spec =
     (tie.spec
     Inv-loop
     μ-loop
-    none-requires
+    (λ c κs. search needs)
     loop-holds
-    mul-t12
-    array-read-t15
-    mul-t17
-    element-set-from-tables
-    add-o
-    loop-less
+    (λ c. search needs)
+    (λ c. search needs)
+    (λ c. search needs)
+    (λ c. search needs)
+    (λ c. search needs)
+    (λ c. search needs)
     loop-again
     returns)

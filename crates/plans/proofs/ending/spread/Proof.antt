@@ -1,0 +1,13 @@
+-- `plans::ending::spread` meets its promise.
+use borrow.Author.Needs.{needs}
+use Rattle.plans.proofs.ending.spread.Statement.{statement}
+use Rattle.plans.proofs.ending.spread.Tie as tie
+
+returns : tie.Need-returns
+returns c = rw (← c .before .puts-back .ensures, c .if1 .taken)
+
+returns-2 : tie.Need-returns-2
+returns-2 c = rw (← c .before .puts-back .ensures, c .if1 .left)
+
+pub spread-spec : {M : Type 1} → statement M
+spread-spec = tie.close (tie.spec (λ c κs. search needs) (λ c. search needs) returns returns-2)
