@@ -1,0 +1,76 @@
+// What the writer gives for fields and a list, with so much room in a buffer of EE.
+use crate::hexadecimal::decode;
+use crate::hexadecimal::front;
+use crate::reading::fields;
+use crate::show::bytes;
+use crate::show::number;
+use crate::show::part;
+use crate::show::text;
+use answers::Answer;
+use counters::ObjectNo;
+use counters::SlotNo;
+use counters::Version;
+use layout::fields::Fields;
+use layout::part::behind;
+use layout::part::byte;
+use layout::part::half;
+use layout::part::word_at;
+
+pub fn write(name: &[u8], bytes: &[u8]) {
+    let mut numbers = [0u8; 600];
+    let count = decode(bytes, &mut numbers);
+    text(name);
+    given(front(&numbers, count));
+}
+
+// The fields in 9 bytes, the room in one, and the list.
+fn given(s: &[u8]) {
+    let made = made(s);
+    fields(b": ", made);
+    roomy(made, behind(s, 10), byte(s, 9));
+}
+
+// A kind's number, slot, object, kind of call, and version, argument or tick. What a kind has no field for is left out.
+fn made(s: &[u8]) -> Fields {
+    let slot = SlotNo(byte(s, 2));
+    let object = ObjectNo(byte(s, 3));
+    let kind = byte(s, 4);
+    let number = word_at(s, 5);
+    match half(s) {
+        0x0100 => Fields::Fresh {
+            first: Version(number),
+        },
+        0x0101 => Fields::Start { slot },
+        0x0102 => Fields::Call {
+            slot,
+            object,
+            kind,
+            argument: number,
+        },
+        0x0103 => Fields::Release { slot, object },
+        0x0104 => Fields::Commit { slot, tick: number },
+        0x0105 => Fields::Rollback { slot, tick: number },
+        0x0201 => Fields::Committed { tick: number, slot },
+        _ => Fields::RolledBack { tick: number, slot },
+    }
+}
+
+fn roomy(made: Fields, list: &[u8], room: u8) {
+    part(b", list", list);
+    number(b", room ", room as u32);
+    let mut buffer = [0xEEu8; 256];
+    written(made, list, &mut buffer[0..room as usize]);
+}
+
+// Number and value, and the buffer afterwards.
+fn written(made: Fields, list: &[u8], buffer: &mut [u8]) {
+    told(writer::write(made, list, buffer));
+    bytes(buffer);
+    text(b"\n");
+}
+
+fn told(answer: Answer) {
+    number(b": ", answer.number());
+    number(b" ", answer.value());
+    text(b";");
+}
