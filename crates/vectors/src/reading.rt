@@ -45,13 +45,13 @@ fn parts(s: &[u8]) {
 
 // The kind, and its fields in the order of the paper's table.
 pub fn fields(words: &[u8], read: Fields) {
-    let numbers = told(read);
+    let numbers = numbers_of(read);
     kind(words, numbers.kind);
     number(b" ", numbers.first);
-    rest(numbers);
+    others(numbers);
 }
 
-fn rest(numbers: Numbers) {
+fn others(numbers: Numbers) {
     if 1 < numbers.count {
         number(b" ", numbers.second);
     }
@@ -61,6 +61,7 @@ fn rest(numbers: Numbers) {
     }
 }
 
+// How many fields there are, and what they hold.
 struct Numbers {
     kind: u16,
     count: u8,
@@ -70,10 +71,10 @@ struct Numbers {
     fourth: u32,
 }
 
-fn told(read: Fields) -> Numbers {
+fn numbers_of(read: Fields) -> Numbers {
     match read {
-        Fields::Fresh { first } => two(0x0100, 1, first.0, 0),
-        Fields::Start { slot } => two(0x0101, 1, slot.0 as u32, 0),
+        Fields::Fresh { first } => at_most_two(0x0100, 1, first.0, 0),
+        Fields::Start { slot } => at_most_two(0x0101, 1, slot.0 as u32, 0),
         Fields::Call {
             slot,
             object,
@@ -87,15 +88,15 @@ fn told(read: Fields) -> Numbers {
             third: kind as u32,
             fourth: argument,
         },
-        Fields::Release { slot, object } => two(0x0103, 2, slot.0 as u32, object.0 as u32),
-        Fields::Commit { slot, tick } => two(0x0104, 2, slot.0 as u32, tick),
-        Fields::Rollback { slot, tick } => two(0x0105, 2, slot.0 as u32, tick),
-        Fields::Committed { tick, slot } => two(0x0201, 2, tick, slot.0 as u32),
-        Fields::RolledBack { tick, slot } => two(0x0202, 2, tick, slot.0 as u32),
+        Fields::Release { slot, object } => at_most_two(0x0103, 2, slot.0 as u32, object.0 as u32),
+        Fields::Commit { slot, tick } => at_most_two(0x0104, 2, slot.0 as u32, tick),
+        Fields::Rollback { slot, tick } => at_most_two(0x0105, 2, slot.0 as u32, tick),
+        Fields::Committed { tick, slot } => at_most_two(0x0201, 2, tick, slot.0 as u32),
+        Fields::RolledBack { tick, slot } => at_most_two(0x0202, 2, tick, slot.0 as u32),
     }
 }
 
-fn two(kind: u16, count: u8, first: u32, second: u32) -> Numbers {
+fn at_most_two(kind: u16, count: u8, first: u32, second: u32) -> Numbers {
     Numbers {
         kind,
         count,

@@ -1,7 +1,7 @@
 // What the writer gives for fields and a list, with so much room in a buffer of EE.
 use crate::hexadecimal::decode;
 use crate::hexadecimal::front;
-use crate::reading::fields;
+use crate::reading;
 use crate::show::bytes;
 use crate::show::number;
 use crate::show::part;
@@ -25,13 +25,13 @@ pub fn write(name: &[u8], bytes: &[u8]) {
 
 // The fields in 9 bytes, the room in one, and the list.
 fn given(s: &[u8]) {
-    let made = made(s);
-    fields(b": ", made);
-    roomy(made, behind(s, 10), byte(s, 9));
+    let fields = fields_of(s);
+    reading::fields(b": ", fields);
+    with_room(fields, behind(s, 10), byte(s, 9));
 }
 
 // A kind's number, slot, object, kind of call, and version, argument or tick. What a kind has no field for is left out.
-fn made(s: &[u8]) -> Fields {
+fn fields_of(s: &[u8]) -> Fields {
     let slot = SlotNo(byte(s, 2));
     let object = ObjectNo(byte(s, 3));
     let kind = byte(s, 4);
@@ -55,21 +55,21 @@ fn made(s: &[u8]) -> Fields {
     }
 }
 
-fn roomy(made: Fields, list: &[u8], room: u8) {
+fn with_room(fields: Fields, list: &[u8], room: u8) {
     part(b", list", list);
     number(b", room ", room as u32);
     let mut buffer = [0xEEu8; 256];
-    written(made, list, &mut buffer[0..room as usize]);
+    written(fields, list, &mut buffer[0..room as usize]);
 }
 
-// Number and value, and the buffer afterwards.
-fn written(made: Fields, list: &[u8], buffer: &mut [u8]) {
-    told(writer::write(made, list, buffer));
+// What the writer answers, and the buffer afterwards.
+fn written(fields: Fields, list: &[u8], buffer: &mut [u8]) {
+    number_and_value(writer::write(fields, list, buffer));
     bytes(buffer);
     text(b"\n");
 }
 
-fn told(answer: Answer) {
+fn number_and_value(answer: Answer) {
     number(b": ", answer.number());
     number(b" ", answer.value());
     text(b";");
