@@ -12,37 +12,38 @@ use machine::Tables;
 use objects::Object;
 use objects::Pair;
 
+const WORDS: [u32; 24] = [
+    100,
+    101,
+    102,
+    103,
+    104,
+    105,
+    106,
+    107,
+    108,
+    109,
+    110,
+    111,
+    112,
+    113,
+    114,
+    115,
+    116,
+    117,
+    118,
+    119,
+    120,
+    121,
+    122,
+    123,
+];
+
 // `fresh 4294967295`, where word o is 100 + o, or `fresh 4294967295, words 0, but word 3 is 100`.
 pub fn fresh(line: &[u8]) -> Tables {
     let first = Version(number_at(line, 0));
     if count_from(line, 1) == 0 {
-        let words = [
-            100,
-            101,
-            102,
-            103,
-            104,
-            105,
-            106,
-            107,
-            108,
-            109,
-            110,
-            111,
-            112,
-            113,
-            114,
-            115,
-            116,
-            117,
-            118,
-            119,
-            120,
-            121,
-            122,
-            123,
-        ];
-        return Tables::fresh(first, words);
+        return Tables::fresh(first, WORDS);
     }
     let mut words = [number_at(line, 1); 24];
     let object = bounded_at(line, 2, 23);

@@ -1,6 +1,6 @@
 // What a line of a session says: its first word, and the decimal numbers among its words, up to a remark behind '#'.
-ghost use Prim.Native.Nat.{_≤_, _<_};
-ghost use lib.ListN.{length};
+ghost use Prim.Native.Nat.{_≤_};
+use bytes::scan::find;
 
 // Whether a line begins with a word.
 pub fn begins(line: &[u8], word: &[u8]) -> bool {
@@ -17,45 +17,15 @@ pub fn begins(line: &[u8], word: &[u8]) -> bool {
     true
 }
 
-// Where the line ends that begins here.
-pub fn line_end(text: &[u8], from: usize) -> usize
-    requires { ⌜ from ≤ length (now text) ⌝ }
-    ensures { λ r. ⌜ from ≤ r ⌝ }
-    ensures { λ r. ⌜ r ≤ length (now (text .entry)) ⌝ }
-{
-    let mut at = from;
-    while at < text.len() {
-        if text[at] == b'\n' {
-            return at;
-        }
-        at = at + 1;
-    }
-    at
-}
-
-// A line read up to some byte: how many numbers have ended, whether one goes on, whether a remark has begun, and the
-// value of the wanted number.
+// A line read up to some byte: how many numbers have ended, whether one goes on, and the value of the wanted number.
 struct Scan {
     passed: u32,
     inside: bool,
-    remark: bool,
     value: u32,
 }
 
 impl Scan {
     fn next(self, wanted: u32, byte: u8) -> Scan {
-        if self.remark {
-            return self;
-        }
-        if byte == b'#' {
-            let ended = self.end();
-            return Scan {
-                passed: ended.passed,
-                inside: false,
-                remark: true,
-                value: ended.value,
-            };
-        }
         if byte < b'0' {
             return self.end();
         }
@@ -74,7 +44,6 @@ impl Scan {
         Scan {
             passed: self.passed,
             inside: true,
-            remark: false,
             value,
         }
     }
@@ -88,7 +57,6 @@ impl Scan {
         Scan {
             passed,
             inside: false,
-            remark: self.remark,
             value: self.value,
         }
     }
@@ -98,11 +66,11 @@ fn walk(line: &[u8], wanted: u32) -> Scan {
     let mut scanned = Scan {
         passed: 0,
         inside: false,
-        remark: false,
         value: 0,
     };
+    let end = find(line, 0, line.len(), b'#');
     let mut at: usize = 0;
-    while at < line.len() {
+    while at < end {
         scanned = scanned.next(wanted, line[at]);
         at = at + 1;
     }
@@ -144,7 +112,7 @@ pub fn count_from(line: &[u8], place: u32) -> usize
     if n <= 136 { n } else { 136 }
 }
 
-// The bytes that stand from this place on.
+// The bytes that stand from this place on, and zeros behind them.
 pub fn bytes_from(line: &[u8], place: u32) -> [u8; 136] {
     let mut bytes = [0u8; 136];
     let mut at: u32 = 0;

@@ -1,12 +1,11 @@
 // A session is lines of text; the first word of a line says what it asks. A line that asks nothing is written as it is.
-ghost use Prim.Native.Nat.{_≤_};
 use crate::events;
 use crate::fields;
 use crate::given;
 use crate::looks;
 use crate::scan::begins;
-use crate::scan::line_end;
 use crate::show::text;
+use bytes::scan::find;
 use machine::Tables;
 
 // The tables, and those that a line `back` goes back to.
@@ -23,7 +22,7 @@ pub fn play(session: &[u8]) {
     };
     let mut at: usize = 0;
     while at < session.len() {
-        let end = line_end(session, at);
+        let end = find(session, at, session.len(), b'\n');
         board = turn(&session[at..end], board);
         at = end + 1;
     }
