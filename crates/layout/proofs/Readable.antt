@@ -21,7 +21,8 @@ pub record IsRight (z : Size) (k : Kind) (b : List ℕ) : Type 0 where
   pub short : length b ≤ bodyLimit z
   pub passes : Passes (bodyRules z k b)
 
-both-true : (a b : Bool) → (a && b) ≡ true → (a ≡ true) × (b ≡ true)
+-- where both tests hold, each does
+pub both-true : (a b : Bool) → (a && b) ≡ true → (a ≡ true) × (b ≡ true)
 both-true true b e = (refl, e)
 both-true false b e = let clash : _≡_ {A = ℕ} 0 1 = cc in absurd (omega arith)
 

@@ -26,7 +26,7 @@ use Rattle.layout.specs.declared.fields.Reading
 use Rattle.layout.proofs.Fronts.{bytes-drop, bytes-take}
 use Rattle.order.specs.CameFirst.{isEnd}
 use Rattle.order.specs.CommonObject.{Rising, VersionsFit}
-use Rattle.order.proofs.Listed.{both-true}
+use Rattle.layout.proofs.Readable.{both-true}
 
 -- what holds of every refusal, and of what is accepted where no rule holds, holds of what is decided
 by-decision : {A : Type 0} (P : A → Type 0) (rules : List Rule) (refused : Refusal → A) (accepted : A)

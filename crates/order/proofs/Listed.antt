@@ -7,13 +7,9 @@ use mathlib.Core.Path.{_≡_, refl}
 use borrow.Author.Tests.{leb-true}
 use native.Mathlib.Omega.{arith}
 use lib.Dec.{leb, ltb}
+use Rattle.layout.proofs.Readable.{both-true}
 use Rattle.layout.specs.Entries.{Entry, risingFrom}
 use Rattle.order.specs.CommonObject.{Lists}
-
--- where both tests hold, each does
-pub both-true : (p q : Bool) → (p && q) ≡ true → (p ≡ true) × (q ≡ true)
-both-true true q h = (refl, h)
-both-true false q h = let clash : _≡_ {A = ℕ} 0 1 = cc in absurd (omega arith)
 
 module _ (objects : ℕ) where
   -- the first object is at least `least`, and the others rise behind it

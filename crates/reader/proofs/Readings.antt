@@ -11,27 +11,17 @@ use borrow.Author.Tests.{eqb-true, not-false}
 use Rattle.answers.proofs.Deciding.{Accepts, Refuses, decided}
 use Rattle.counters.specs.Sizes.{Size}
 use Rattle.answers.specs.declared.Refusal.{Refusal}
+use Rattle.layout.proofs.WriteBack.{kind-kept}
 use Rattle.layout.specs.Bytes.{IsPart, moved}
 use Rattle.layout.specs.Kinds.{shapeOf, bodyLength, kindOf}
 use Rattle.layout.specs.Fields.{fieldsOf, kindOfFields}
 use Rattle.layout.specs.Reading.{frameRules, kindField, body, bodyPlace, bodyRules, bodyReading, reading, readingOf, listing, listPlace}
 use Rattle.layout.specs.declared.kind.Kind.{Kind}
-use Rattle.layout.specs.declared.kind.Kind.the-variants.{Fresh, Start, Call, Release, Commit, Rollback, Committed, RolledBack}
 use Rattle.layout.specs.declared.kind.KindFound.{KindFound}
 use Rattle.layout.specs.declared.kind.KindFound.the-variants.{Known, Unknown}
 use Rattle.layout.specs.declared.fields.Fields.{Fields}
 use Rattle.layout.specs.declared.fields.Reading.{Reading}
 use Rattle.layout.specs.declared.fields.Reading
-
-kind-kept : (k : Kind) (b : List ℕ) → kindOfFields (fieldsOf k b) ≡ k
-kind-kept Fresh b = refl
-kind-kept Start b = refl
-kind-kept Call b = refl
-kind-kept Release b = refl
-kind-kept Commit b = refl
-kind-kept Rollback b = refl
-kind-kept Committed b = refl
-kind-kept RolledBack b = refl
 
 abbrev HeadThere : Fields → List ℕ → Type 0
 HeadThere f b = shapeOf (kindOfFields f) .head ≤ length b
