@@ -1,6 +1,6 @@
 -- Writing: 'fields that make no readable record (for a start, also an odd list) give 12, then a short buffer gives 11, else the record
 -- stands at the buffer's first byte, the rest stays and the value is the bytes written.'
-use Prim.Native.Nat.{ℕ, _+_}
+use Prim.Native.Nat.{ℕ}
 use mathlib.Core.Bool.{Bool, not, _&&_}
 use mathlib.Core.List.{List, [], _∷_, _++_}
 use lib.ListN.{length, drop}

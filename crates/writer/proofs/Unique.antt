@@ -3,7 +3,6 @@ use Prim.Native.Nat.{ℕ}
 use mathlib.Core.List.{List}
 use mathlib.Core.Path.{_≡_, ap}
 use Rattle.answers.proofs.Tells.{reply-tells}
-use Rattle.answers.specs.Numbers.{Reply}
 use Rattle.answers.specs.declared.Answer.{Answer}
 use Rattle.layout.specs.Writing.{Written, written}
 
