@@ -17,11 +17,12 @@ use Rattle.rules.specs.Tables.{State, objectAt, liveAt, pairAt}
 use Rattle.rules.specs.Refusing.{doomed, startRules, callRules, releaseRules}
 use Rattle.rules.specs.Effects.{startEffect, callEffect, releaseEffect}
 use Rattle.rules.specs.Steps.{Stepping, unchanged, startStep, callStep, releaseStep}
+use Rattle.rules.specs.Histories.{names}
 use Rattle.rules.proofs.Picking.{both-true, pick-when}
 use Rattle.rules.proofs.Stores.{Sized}
 use Rattle.rules.proofs.Exactly.{start-exactly, call-exactly, release-exactly}
 use Rattle.rules.proofs.Called.{Called, GaveWay, call-effect, release-effect}
-use Rattle.rules.proofs.Started.{Started, names, start-effect}
+use Rattle.rules.proofs.Started.{Started, start-effect}
 
 -- the tables of an accepted step are those of its effect
 effect-comes : (t : State) (rules : List Rule) (effect : State) (value : ℕ) → Passes rules

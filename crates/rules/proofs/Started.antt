@@ -16,16 +16,12 @@ use Rattle.objects.specs.declared.Pair.{Pair}
 use Rattle.rules.specs.Tables.{State, noObject, objectAt, liveAt, pairAt, withObject}
 use Rattle.rules.specs.Refusing.{pairRules}
 use Rattle.rules.specs.Effects.{clearSlot, declareOne, declareAll, startEffect}
+use Rattle.rules.specs.Histories.{names}
 use Rattle.rules.proofs.Picking.{and-false, both-true, pick-nested, pick-moved}
 use Rattle.rules.proofs.Stores.{Sized, pair-after, object-after, live-after, sized-pair, sized-object, sized-live}
 use Rattle.rules.proofs.Cleared.{clear-objects, clear-live, clear-sized, clear-pairs}
 
--- whether a start's list names an object, and the supremum beside it
-abbrev pub names : List ℕ → ℕ → Bool
-names (object ∷ supremum ∷ rest) q = eqb q object || names rest q
-names (object ∷ []) q = false
-names [] q = false
-
+-- the supremum that stands beside an object in a start's list
 abbrev pub supremumOf : List ℕ → ℕ → ℕ
 supremumOf (object ∷ supremum ∷ rest) q = pick (eqb q object) supremum (supremumOf rest q)
 supremumOf (object ∷ []) q = 0

@@ -3,3 +3,9 @@ pub mod Walks
 pub mod Refusing
 pub mod Effects
 pub mod Steps
+pub mod Events
+pub mod Histories
+pub mod Runs
+pub mod LoneRun
+pub mod Statements
+pub mod SessionW

@@ -46,6 +46,13 @@ startRules z slot live list =
     ∷ BadList when badLength z list
     ∷ pairRules z 0 list
 
+-- 'd = 1: it is the transaction's turn. d from 2 to 16: Wait. Any other d: Released.' In the order of a call and a release: 8, 10.
+abbrev pub turnRules : Size → Pair → Object → List Rule
+turnRules z pair object =
+    Released when saysReleased (turnOf (z .slots) pair object)
+    ∷ Wait when saysWait (turnOf (z .slots) pair object)
+    ∷ []
+
 -- 'Call: 1, 5, 2, 6, 7, 9, 8, 10.'
 abbrev pub callRules : Size → ℕ → ℕ → ℕ → Bool → Bool → Pair → Object → List Rule
 callRules z slot number kind live is-doomed pair object =
@@ -55,9 +62,7 @@ callRules z slot number kind live is-doomed pair object =
     ∷ NotDeclared when not (pair .declared)
     ∷ BadCall when leb 4 kind
     ∷ Doomed when is-doomed
-    ∷ Released when saysReleased (turnOf (z .slots) pair object)
-    ∷ Wait when saysWait (turnOf (z .slots) pair object)
-    ∷ []
+    ∷ turnRules z pair object
 
 -- 'Release: 1, 5, 2, 6, 8, 10.'
 abbrev pub releaseRules : Size → ℕ → ℕ → Bool → Pair → Object → List Rule
@@ -66,9 +71,7 @@ releaseRules z slot number live pair object =
     ∷ Idle when not live
     ∷ BadObject when leb (z .objects) number
     ∷ NotDeclared when not (pair .declared)
-    ∷ Released when saysReleased (turnOf (z .slots) pair object)
-    ∷ Wait when saysWait (turnOf (z .slots) pair object)
-    ∷ []
+    ∷ turnRules z pair object
 
 -- 'Rollback: 1, 5, 10, 11.' and 'Commit: 1, 5, 9, 10, 11.'
 abbrev pub endRules : Size → Bool → ℕ → Bool → Bool → Bool → Bool → List Rule

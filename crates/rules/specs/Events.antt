@@ -1,0 +1,15 @@
+-- An event as a task hands it in: the fields of its record, the list beside them, and the buffer that it is lent.
+use Prim.Native.Nat.{ℕ}
+use mathlib.Core.List.{List}
+use Rattle.counters.specs.Sizes.{Size}
+use Rattle.layout.specs.declared.fields.Fields.{Fields}
+use Rattle.rules.specs.Tables.{State}
+use Rattle.rules.specs.Steps.{Outcome, eventStep}
+
+pub record Event : Type 0 where
+  pub fields : Fields
+  pub list : List ℕ
+  pub buffer : List ℕ
+
+abbrev pub outcomeOf : Size → State → Event → Outcome
+outcomeOf z t event = eventStep z t (event .fields) (event .list) (event .buffer)
