@@ -1,24 +1,21 @@
 -- What an accepted commit or rollback leaves as it was, and what it changes, place by place.
 use Prim.Native.Nat.{ℕ, _<_}
 use mathlib.Core.Bool.{Bool, true, false, not, _&&_, _||_}
-use mathlib.Core.List.{List, _++_}
+use mathlib.Core.List.{List}
 use mathlib.Core.Logic.{_≢_}
 use mathlib.Core.Path.{_≡_, refl, sym, ap, _∙_}
-use lib.ListN.{length, drop}
 use borrow.Author.Tests.{eq-eqb, ne-eqb, leb-false}
-use Rattle.answers.specs.Numbers.{accepted}
 use Rattle.answers.specs.Order.{pick}
-use Rattle.answers.proofs.Deciding.{Passes, passed}
+use Rattle.answers.proofs.Deciding.{Passes}
 use Rattle.counters.specs.Sizes.{Size}
 use Rattle.objects.specs.Places.{noPair, ended, restores, restored, spoiledPair}
 use Rattle.objects.specs.declared.Object.{Object}
 use Rattle.objects.specs.declared.Pair.{Pair}
 use Rattle.rules.specs.Tables.{State, objectAt, liveAt, pairAt}
-use Rattle.rules.specs.Effects.{endEffect, endRecord}
-use Rattle.rules.specs.Steps.{Outcome, beside, unchanged, endStep}
+use Rattle.rules.specs.Steps.{endStep}
 use Rattle.rules.proofs.Picking.{or-true, or-false, pick-when, pick-seen}
 use Rattle.rules.proofs.Stores.{Sized}
-use Rattle.rules.proofs.Exactly.{rulesOfEnd, commit-exactly, rollback-exactly}
+use Rattle.rules.proofs.Exactly.{rulesOfEnd, end-passes, end-comes}
 use Rattle.rules.proofs.Ended.{Ended, endedAt, end-effect}
 
 -- both ends: the pairs of the slot are cleared and it is no longer live; on an object that it did not declare nothing changes;
@@ -88,6 +85,12 @@ rolled-back-word z pair object = by (pair .declared) refl
     by true e = rw e (pick-seen (λ (x : Object). x .word) (pair .called && not (pair .spoiled)) (restored pair object) object)
     by false e = rw e
 
+-- of either end
+pub ended-word : (z : Size) (rollback : Bool) (pair : Pair) (object : Object)
+    → endedAt z rollback pair object .word ≡ pick (rollback && restores pair) (pair .saved) (object .word)
+ended-word z false pair object = committed-word z pair object
+ended-word z true pair object = rolled-back-word z pair object
+
 spoiled-at-most : (cause : Bool) (pair : Pair) → AtMostSpoiled cause pair (pick cause (spoiledPair pair) pair)
 spoiled-at-most true pair =
     record { declared = refl; supremum = refl; private = refl; count = refl; called = refl; saved = refl; spoiled = sym (or-true (pair .spoiled)) }
@@ -95,7 +98,7 @@ spoiled-at-most false pair =
     record { declared = refl; supremum = refl; private = refl; count = refl; called = refl; saved = refl; spoiled = sym (or-false (pair .spoiled)) }
 
 module _ (z : Size) (s : ℕ) (slot : s < z .slots) (t u : State) where
-  ended-leaves : (rollback : Bool) → Ended z rollback s t u → EndLeaves z s t u
+  pub ended-leaves : (rollback : Bool) → Ended z rollback s t u → EndLeaves z s t u
   ended-leaves rollback ends =
       record {
         own = λ q below. ends .pair s q slot below ∙ rw (eq-eqb s s refl);
@@ -127,33 +130,22 @@ module _ (z : Size) (s : ℕ) (slot : s < z .slots) (t u : State) where
       }
 
 module _ (z : Size) (t : State) (sized : Sized z t) (s tick : ℕ) (buffer : List ℕ) where
-  passes-of : (rollback : Bool) → endStep z rollback t s tick buffer .reply .number ≡ 0 → Passes (rulesOfEnd z t rollback s tick buffer)
-  passes-of false done = commit-exactly z t s tick buffer .accepts .0 done
-  passes-of true done = rollback-exactly z t s tick buffer .accepts .0 done
-
   slot-of : (rollback : Bool) → Passes (rulesOfEnd z t rollback s tick buffer) → s < z .slots
   slot-of false passes = leb-false (z .slots) s (passes .0)
   slot-of true passes = leb-false (z .slots) s (passes .0)
-
-  effect-comes : (rollback : Bool) → Passes (rulesOfEnd z t rollback s tick buffer) → endStep z rollback t s tick buffer .tables ≡ endEffect z rollback s t
-  effect-comes rollback passes =
-      let written : List ℕ = endRecord z rollback s tick t in
-      ap (λ (outcome : Outcome). outcome .tables)
-      (passed (rulesOfEnd z t rollback s tick buffer) (λ refusal. beside buffer (unchanged t refusal))
-      (record { tables = endEffect z rollback s t; reply = accepted (length written); buffer = written ++ drop (length written) buffer }) passes)
 
   -- an accepted end has its effect, place by place
   pub end-places : (rollback : Bool) → endStep z rollback t s tick buffer .reply .number ≡ 0
       → Ended z rollback s t (endStep z rollback t s tick buffer .tables)
   end-places rollback done =
-      let passes : Passes (rulesOfEnd z t rollback s tick buffer) = passes-of rollback done in
-      rw (effect-comes rollback passes) (end-effect z t sized rollback s (slot-of rollback passes))
+      let passes : Passes (rulesOfEnd z t rollback s tick buffer) = end-passes z t rollback s tick buffer done in
+      rw (end-comes z t rollback s tick buffer passes) (end-effect z t sized rollback s (slot-of rollback passes))
 
   -- what an accepted commit and an accepted rollback leave
   pub commit-leaves : endStep z false t s tick buffer .reply .number ≡ 0 → CommitLeaves z s t (endStep z false t s tick buffer .tables)
   commit-leaves done =
-      committed-leaves z s (slot-of false (passes-of false done)) t (endStep z false t s tick buffer .tables) (end-places false done)
+      committed-leaves z s (slot-of false (end-passes z t false s tick buffer done)) t (endStep z false t s tick buffer .tables) (end-places false done)
 
   pub rollback-leaves : endStep z true t s tick buffer .reply .number ≡ 0 → RollbackLeaves z s t (endStep z true t s tick buffer .tables)
   rollback-leaves done =
-      rolled-back-leaves z s (slot-of true (passes-of true done)) t (endStep z true t s tick buffer .tables) (end-places true done)
+      rolled-back-leaves z s (slot-of true (end-passes z t true s tick buffer done)) t (endStep z true t s tick buffer .tables) (end-places true done)

@@ -17,7 +17,7 @@ use Rattle.objects.specs.Kinds.{acted}
 use Rattle.rules.specs.Tables.{State, objectAt, liveAt, pairAt}
 use Rattle.rules.specs.Refusing.{doomed, unmet, pairRules, startRules, callRules, releaseRules, endRules}
 use Rattle.rules.specs.Effects.{startEffect, callEffect, releaseEffect, endEffect, endRecord}
-use Rattle.rules.specs.Steps.{unchanged, beside, startStep, callStep, releaseStep, endStep}
+use Rattle.rules.specs.Steps.{Outcome, unchanged, beside, startStep, callStep, releaseStep, endStep}
 
 -- a rule with this number holds and all rules before it pass
 pub record FirstOf (rules : List Rule) (number : ℕ) : Type 0 where
@@ -159,13 +159,17 @@ module _ (z : Size) (t : State) where
   rulesOfEnd rollback s tick buffer =
       endRules z rollback s (liveAt t s) (doomed z t s) (unmet z t s) (ltb (length buffer) (length (endRecord z rollback s tick t)))
 
+  -- what comes back of an end that no rule refuses
+  abbrev pub endOutcome : Bool → ℕ → ℕ → List ℕ → Outcome
+  endOutcome rollback s tick buffer =
+      let written : List ℕ = endRecord z rollback s tick t in
+      record { tables = endEffect z rollback s t; reply = accepted (length written); buffer = written ++ drop (length written) buffer }
+
   end-exactly : (rollback : Bool) (s tick : ℕ) (buffer order : List ℕ) → numbers (rulesOfEnd rollback s tick buffer) ≡ order
       → Exact (rulesOfEnd rollback s tick buffer) order (endStep z rollback t s tick buffer .reply .number)
   end-exactly rollback s tick buffer order in-order =
-      let written : List ℕ = endRecord z rollback s tick t in
       decided-exactly (λ outcome. outcome .reply .number) (rulesOfEnd rollback s tick buffer) order (λ refusal. beside buffer (unchanged t refusal))
-      (record { tables = endEffect z rollback s t; reply = accepted (length written); buffer = written ++ drop (length written) buffer })
-      in-order (λ refusal. refl) refl
+      (endOutcome rollback s tick buffer) in-order (λ refusal. refl) refl
 
   -- 'Commit: 1, 5, 9, 10, 11.'
   pub commit-exactly : (s tick : ℕ) (buffer : List ℕ)
@@ -176,3 +180,14 @@ module _ (z : Size) (t : State) where
   pub rollback-exactly : (s tick : ℕ) (buffer : List ℕ)
       → Exact (rulesOfEnd true s tick buffer) (1 ∷ 5 ∷ 10 ∷ 11 ∷ []) (endStep z true t s tick buffer .reply .number)
   rollback-exactly s tick buffer = end-exactly true s tick buffer (1 ∷ 5 ∷ 10 ∷ 11 ∷ []) refl
+
+  -- of both ends: what is accepted passes its rules, and what passes them comes back whole
+  pub end-passes : (rollback : Bool) (s tick : ℕ) (buffer : List ℕ) → endStep z rollback t s tick buffer .reply .number ≡ 0
+      → Passes (rulesOfEnd rollback s tick buffer)
+  end-passes false s tick buffer done = commit-exactly s tick buffer .accepts .0 done
+  end-passes true s tick buffer done = rollback-exactly s tick buffer .accepts .0 done
+
+  pub end-comes : (rollback : Bool) (s tick : ℕ) (buffer : List ℕ) → Passes (rulesOfEnd rollback s tick buffer)
+      → endStep z rollback t s tick buffer ≡ endOutcome rollback s tick buffer
+  end-comes rollback s tick buffer passes =
+      passed (rulesOfEnd rollback s tick buffer) (λ refusal. beside buffer (unchanged t refusal)) (endOutcome rollback s tick buffer) passes

@@ -14,3 +14,4 @@ pub mod Ended
 pub mod Leaves
 pub mod EndLeaves
 pub mod SizesKept
+pub mod Runs

@@ -2,6 +2,7 @@
 use Prim.Native.Nat.{ℕ}
 use mathlib.Core.Bool.{Bool, true, false, _&&_, _||_}
 use mathlib.Core.Path.{_≡_, refl, sym, ap}
+use native.Mathlib.Omega.{arith}
 use Rattle.answers.specs.Order.{pick}
 
 -- a test beside one that is known
@@ -13,6 +14,10 @@ pub and-true : (a : Bool) → a && true ≡ a
 and-true true = refl
 and-true false = refl
 
+pub and-assoc : (a b c : Bool) → (a && b) && c ≡ a && (b && c)
+and-assoc true b c = refl
+and-assoc false b c = refl
+
 pub or-true : (a : Bool) → a || true ≡ true
 or-true true = refl
 or-true false = refl
@@ -20,6 +25,10 @@ or-true false = refl
 pub or-false : (a : Bool) → a || false ≡ a
 or-false true = refl
 or-false false = refl
+
+-- no test both holds and fails
+pub clash : true ≡ false → ⊥
+clash e = let one : _≡_ {A = ℕ} 0 1 = ap (λ (b : Bool). pick b 0 1) e in omega arith
 
 -- both parts of a test that holds
 pub both-true : (a b : Bool) → a && b ≡ true → (a ≡ true) × (b ≡ true)
