@@ -1,2 +1,3 @@
 pub mod Filling
+pub mod Folds
 pub mod Unique

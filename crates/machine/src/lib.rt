@@ -1,9 +1,8 @@
 // The machine: its tables go in with an event, and the new tables come back with the answer.
 ghost use mathlib.Core.Path.{_≡_};
 ghost use Rattle.counters.specs.Sizes.{base};
-ghost use Rattle.rules.specs.Tables.{freshTables};
 ghost use Rattle.rules.specs.Steps.{callStep, releaseStep, startStep, endStep, eventStep, recordStep};
-ghost use Rattle.machine.specs.Views.{view, told};
+ghost use Rattle.machine.specs.Views.{view, told, FreshGives};
 
 pub mod ending;
 pub mod starting;
@@ -37,7 +36,7 @@ impl Tables {
     // Given a word for each object and a first version, all three versions of every object are that version and no slot
     // is live.
     pub fn fresh(first: Version, words: [u32; 24]) -> Tables
-        ensures { λ r. ⌜ view r ≡ freshTables base words (first .0) ⌝ }
+        ensures { λ r. ⌜ FreshGives (first .0) words r ⌝ }
     {
         let none = Pair::none();
         let zero = Object {

@@ -1,9 +1,8 @@
 // An event, by the fields of its record or by the record's bytes.
 ghost use mathlib.Core.Path.{_≡_};
-ghost use Rattle.counters.specs.Sizes.{base};
 ghost use Rattle.answers.specs.declared.Refusal.the-variants.{BadRecord};
-ghost use Rattle.rules.specs.Steps.{unchanged, eventStep, recordStep};
-ghost use Rattle.machine.specs.Views.{view, told, ended};
+ghost use Rattle.rules.specs.Steps.{unchanged};
+ghost use Rattle.machine.specs.Views.{view, told, StepGives, RecordGives};
 use crate::Stepped;
 use crate::Tables;
 use answers::Answer;
@@ -14,7 +13,7 @@ use layout::fields::Reading;
 impl Tables {
     // The list is the one that stands beside the fields. A fresh or an end record is no event.
     pub fn step(self, fields: Fields, list: &[u8], buf: &mut [u8]) -> Stepped
-        ensures { λ r. ⌜ ended r (now (buf .exit)) ≡ eventStep base (view self) fields (now (list .entry)) (now (buf .entry)) ⌝ }
+        ensures { λ r. ⌜ StepGives self fields (now (list .entry)) (now (buf .entry)) r (now (buf .exit)) ⌝ }
     {
         match fields {
             Fields::Fresh { first: _ } => self.refused(),
@@ -35,7 +34,7 @@ impl Tables {
 
     // Bytes behind the record don't matter.
     pub fn step_record(self, bytes: &[u8], buf: &mut [u8]) -> Stepped
-        ensures { λ r. ⌜ ended r (now (buf .exit)) ≡ recordStep base (view self) (now (bytes .entry)) (now (buf .entry)) ⌝ }
+        ensures { λ r. ⌜ RecordGives self (now (bytes .entry)) (now (buf .entry)) r (now (buf .exit)) ⌝ }
     {
         let Reading::Fields(fields) = reader::read(bytes) else {
             return self.refused();
