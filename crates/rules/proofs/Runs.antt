@@ -35,3 +35,4 @@ pub mod CommittedAlone
 pub mod DueServed
 pub mod EarliestServed
 pub mod EveryRun
+pub mod Example
