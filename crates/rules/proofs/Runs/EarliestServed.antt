@@ -4,9 +4,9 @@ use mathlib.Core.Bool.{Bool, true, false}
 use mathlib.Core.List.{List, [], _∷_}
 use mathlib.Core.Path.{_≡_, refl, sym, ap, subst, _∙_}
 use native.Mathlib.Omega.{arith}
-use lib.Dec.{eqb, leb}
-use lib.ListN.{length, getD, List·getD-eq-default}
-use borrow.Author.Tests.{eqb-false, eq-eqb, le-leb, leb-true, leb-false}
+use lib.Dec.{eqb}
+use lib.ListN.{getD}
+use borrow.Author.Tests.{eqb-false, eq-eqb, le-leb}
 use Rattle.counters.specs.Sizes.{Size}
 use Rattle.counters.specs.Versions.{turnover, next, unwrappedTurn}
 use Rattle.counters.proofs.Turnover.{turn-unwrapped}
@@ -18,8 +18,11 @@ use Rattle.rules.specs.Runs.{Run}
 use Rattle.rules.specs.Statements.{Within, Earliest, Served, anyLive, countLive, declarers}
 use Rattle.rules.proofs.Picking.{clash}
 use Rattle.rules.proofs.Runs.Found.{count-append}
-use Rattle.rules.proofs.Runs.Scan.{Standing, declares, wordAfter, replayed, LiveFact, Scan, scan-splits}
+use Rattle.rules.proofs.Runs.Scan.{Standing, declares, wordAfter, replayed, LiveFact, Scan}
+use Rattle.rules.proofs.Runs.Exchanged.{Parts, scan-parts}
 use Rattle.rules.proofs.Runs.Invariant.{standing, Object, Invariant}
+use Rattle.rules.proofs.Runs.Untouched.{live-inside}
+use Rattle.rules.proofs.Runs.Width.{width}
 use Rattle.rules.proofs.Runs.DueServed.{due-served}
 
 module _ (o first : ℕ) (v : Standing) where
@@ -54,10 +57,9 @@ module _ {z : Size} {words : List ℕ} {first : ℕ} {t : State} {history : Hist
   abbrev seen : Standing
   seen = standing z t o (object .terminal) (object .local)
 
-  parts : Scan o first seen 0 (getD words o 0) (earliest .before)
-      × Scan o first seen (0 + declarers o (earliest .before)) (replayed o seen (getD words o 0) (earliest .before)) (x ∷ earliest .behind)
+  parts : Parts o first seen (getD words o 0) (earliest .before) x (earliest .behind)
   parts =
-      scan-splits o first seen 0 (getD words o 0) (earliest .before) (x ∷ earliest .behind)
+      scan-parts o first seen (getD words o 0) (earliest .before) x (earliest .behind)
       (subst (Scan o first seen 0 (getD words o 0)) (earliest .all) (object .scan))
 
   -- all that declared the object before it have ended, so its version is the one after the terminal version
@@ -66,13 +68,13 @@ module _ {z : Size} {words : List ℕ} {first : ℕ} {t : State} {history : Hist
     where
       by : (named : Bool) → names (x .list) o ≡ named → pairAt z t (x .slot) o .private .0 ≡ (first + suc (object .terminal)) % turnover
       by true e =
-          let own : LiveFact o first seen (0 + declarers o (earliest .before)) (replayed o seen (getD words o 0) (earliest .before)) x =
-          parts .1 .0 .live (earliest .live) e in
+          let own : LiveFact o first seen (declarers o (earliest .before)) (replayed o seen (getD words o 0) (earliest .before)) x =
+          parts .fact .live (earliest .live) e in
           let ended : 0 + declarers o (earliest .before) ≤ object .terminal =
-          all-ended o first seen 0 (getD words o 0) (earliest .before) (earliest .first) (omega arith) (parts .0) in
-          let same : 0 + declarers o (earliest .before) ≡ object .terminal = omega (arith, own .ahead) in
+          all-ended o first seen 0 (getD words o 0) (earliest .before) (earliest .first) (omega arith) (parts .before-scan) in
+          let same : declarers o (earliest .before) ≡ object .terminal = omega (arith, own .ahead) in
           own .private ∙ rw same
-      by false e = absurd (clash (sym declared ∙ ap (λ (pair : Pair). pair .declared) (parts .1 .0 .none (earliest .live) e)))
+      by false e = absurd (clash (sym declared ∙ ap (λ (pair : Pair). pair .declared) (parts .fact .none (earliest .live) e)))
 
   due-next : pairAt z t (x .slot) o .declared ≡ true → next (objectAt t o .terminal .0) ≡ pairAt z t (x .slot) o .private .0
   due-next declared = omega (arith, object .terminal-is, private-is declared)
@@ -89,7 +91,6 @@ module _ {z : Size} {words : List ℕ} {first : ℕ} {t : State} {history : Hist
       (next-no-wait (first + suc (object .terminal)) (first + object .local) (omega (arith, object .low)))
 
 module _ (z : Size) (within : Within z) {words : List ℕ} {first : ℕ} {run : Run} (inv : Invariant z words first run)
-    (wide : (o : ℕ) (below : o < z .objects) → declarers o (run .history) ≤ inv .objects o below .terminal + z .slots)
     (x : Transaction) (earliest : Earliest (run .history) x) where
   -- its slot is live, and so inside the tables
   counted : 1 ≤ countLive (x .slot) (run .history)
@@ -104,14 +105,8 @@ module _ (z : Size) (within : Within z) {words : List ℕ} {first : ℕ} {run : 
   live : liveAt (run .tables) (x .slot) ≡ true
   live = slot-live (liveAt (run .tables) (x .slot)) refl
 
-  slot-inside : (outside : Bool) → leb (z .slots) (x .slot) ≡ outside → x .slot < z .slots
-  slot-inside true e =
-      let past : length (run .tables .live) ≤ x .slot = omega (arith, inv .sized .live, leb-true (z .slots) (x .slot) e) in
-      absurd (clash (sym live ∙ List·getD-eq-default (run .tables .live) false past))
-  slot-inside false e = leb-false (z .slots) (x .slot) e
-
   slot : x .slot < z .slots
-  slot = slot-inside (leb (z .slots) (x .slot)) refl
+  slot = live-inside z (run .tables) (inv .sized) (x .slot) live
 
   pub earliest-served : Served z (run .tables) (x .slot)
   earliest-served =
@@ -119,6 +114,6 @@ module _ (z : Size) (within : Within z) {words : List ℕ} {first : ℕ} {run : 
       (record {
         slot = slot;
         live = live;
-        turn = λ o below. turn-come (inv .objects o below) earliest (within .slots) (omega (arith, slot)) (wide o below);
+        turn = λ o below. turn-come (inv .objects o below) earliest (within .slots) (omega (arith, slot)) (width z words first run inv o below);
         need = λ o below. due-next (inv .objects o below) earliest;
       })

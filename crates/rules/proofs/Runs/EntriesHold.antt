@@ -1,9 +1,8 @@
 -- The entries of the tables: those of a slot that is not live are zero, whoever is spoiled has called, and whoever has called has declared.
-use Prim.Native.Nat.{ℕ, _+_, _<_}
+use Prim.Native.Nat.{ℕ, _<_}
 use mathlib.Core.Bool.{Bool, true, false}
-use mathlib.Core.List.{List, _∷_, _++_}
+use mathlib.Core.List.{List}
 use mathlib.Core.Path.{_≡_, refl, sym, _∙_}
-use native.Mathlib.Nat.{zero-add}
 use lib.ListN.{getD}
 use Rattle.counters.specs.Sizes.{Size}
 use Rattle.objects.specs.Places.{noPair}
@@ -13,8 +12,9 @@ use Rattle.rules.specs.Histories.{Transaction, isLive, names}
 use Rattle.rules.specs.Statements.{EntriesRight, declarers}
 use Rattle.rules.specs.Runs.{Run}
 use Rattle.rules.proofs.Picking.{clash}
-use Rattle.rules.proofs.Runs.Scan.{Standing, replayed, LiveFact, Fact, Scan, scan-splits}
+use Rattle.rules.proofs.Runs.Scan.{Standing, replayed, LiveFact, Fact}
 use Rattle.rules.proofs.Runs.Found.{Found, find}
+use Rattle.rules.proofs.Runs.Exchanged.{scan-parts}
 use Rattle.rules.proofs.Runs.Invariant.{Invariant, standing}
 
 module _ (z : Size) (words : List ℕ) (first : ℕ) (run : Run) (inv : Invariant z words first run) where
@@ -29,14 +29,8 @@ module _ (z : Size) (words : List ℕ) (first : ℕ) (run : Run) (inv : Invarian
   -- and the scan of each object has come to it
   pub fact-of : (o : ℕ) (below : o < z .objects) (s : ℕ) (f : Found s (run .history))
       → Fact o first (standing-of o below) (declarers o (f .before)) (replayed o (standing-of o below) (getD words o 0) (f .before)) (f .own)
-  fact-of o below s f = rw (zero-add (declarers o (f .before))) at (behind .0)
-    where
-      all : Scan o first (standing-of o below) 0 (getD words o 0) (f .before ++ f .own ∷ f .behind)
-      all = rw (f .all) at (inv .objects o below .scan)
-
-      behind : Scan o first (standing-of o below) (0 + declarers o (f .before)) (replayed o (standing-of o below) (getD words o 0) (f .before))
-          (f .own ∷ f .behind)
-      behind = scan-splits o first (standing-of o below) 0 (getD words o 0) (f .before) (f .own ∷ f .behind) all .1
+  fact-of o below s f =
+      scan-parts o first (standing-of o below) (getD words o 0) (f .before) (f .own) (f .behind) (rw (f .all) at (inv .objects o below .scan)) .fact
 
 -- what holds of one pair
 record Right (p : Pair) : Type 0 where

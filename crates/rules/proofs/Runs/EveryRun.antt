@@ -24,7 +24,6 @@ use Rattle.rules.proofs.Runs.EndRecords.{end-written}
 use Rattle.rules.proofs.Runs.RecordOrder.{in-true-order}
 use Rattle.rules.proofs.Runs.RecordsKept.{Records, records-at}
 use Rattle.rules.proofs.Runs.Invariant.{Invariant, Object}
-use Rattle.rules.proofs.Runs.Width.{width}
 use Rattle.rules.proofs.Runs.VersionsBetween.{between}
 use Rattle.rules.proofs.Runs.EntriesHold.{found-of, entries-right}
 use Rattle.rules.proofs.Runs.CommittedAlone.{answers-alone, words-alone}
@@ -135,7 +134,7 @@ module _ (z : Size) (within : Within z) (words : List ℕ) (first : ℕ) (run : 
         answers-alone = answers-alone all inv;
         words-alone = words-alone all inv;
         live = inv .live;
-        earliest = earliest-served z within inv (width z words first run inv);
+        earliest = earliest-served z within inv;
         none-doomed = none-doomed;
         between = between z within words first run inv;
         entries = entries-right z words first run inv;
