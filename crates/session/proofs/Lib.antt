@@ -1,0 +1,9 @@
+pub mod Taking
+pub mod Wording
+pub mod Digits
+pub mod Making
+pub mod Moving
+pub mod SessionW
+pub mod Unique
+pub mod Pieces
+pub mod Enough

@@ -1,0 +1,6 @@
+pub mod Records
+pub mod Buffers
+pub mod Lines
+pub mod Made
+pub mod Bench
+pub mod SessionW
