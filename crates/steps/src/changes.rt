@@ -1,10 +1,10 @@
 // What an event changes: how many objects, live marks and pairs are not what they were.
 ghost use Prim.Native.Nat.{_≤_};
-use crate::show::number;
-use crate::show::numbers;
 use machine::Tables;
 use objects::Object;
 use objects::Pair;
+use show::number;
+use show::numbers;
 
 // Nothing is said where nothing is new.
 pub fn changes(before: Tables, after: Tables) {

@@ -1,10 +1,10 @@
 // One line for each event: what was asked, number and value, the buffer if it was written to, and what changed.
 use crate::changes::changes;
-use crate::show::bytes;
-use crate::show::numbers;
-use crate::show::text;
 use machine::Stepped;
 use machine::Tables;
+use show::bytes;
+use show::numbers;
+use show::text;
 
 pub fn told(line: &[u8], before: Tables, stepped: Stepped, buffer: &[u8]) -> Tables {
     let answer = stepped.answer;

@@ -1,9 +1,9 @@
 // What stands in the tables: an object, or a pair.
 use crate::scan::bounded_at;
-use crate::show::mark;
-use crate::show::numbers;
-use crate::show::text;
 use machine::Tables;
+use show::mark;
+use show::numbers;
+use show::text;
 
 // `show object 3`
 pub fn object(line: &[u8], tables: Tables) {

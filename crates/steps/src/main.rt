@@ -9,7 +9,6 @@ mod lines;
 mod looks;
 mod scan;
 mod sessions;
-mod show;
 
 fn main() {
     let mut input = io::large_buffer();

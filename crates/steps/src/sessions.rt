@@ -4,9 +4,9 @@ use crate::fields;
 use crate::given;
 use crate::looks;
 use crate::scan::begins;
-use crate::show::text;
 use bytes::scan::find;
 use machine::Tables;
+use show::text;
 
 // The tables, and those that a line `back` goes back to.
 struct Board {

@@ -1,6 +1,6 @@
 // Bytes as text: two hexadecimal digits behind a space or another sign; behind a plus they count zeros.
 ghost use Prim.Native.Nat.{_≤_};
-use crate::show::first;
+use show::first;
 
 // Puts the bytes at the front of a record of zeros; how many there are.
 pub fn decode(text: &[u8], record: &mut [u8; 600]) -> usize {

@@ -4,7 +4,6 @@ mod hexadecimal;
 mod ordering;
 mod page;
 mod reading;
-mod show;
 mod writing;
 
 fn main() {

@@ -1,10 +1,10 @@
 // Which of two records came first.
 use crate::hexadecimal::decode;
 use crate::hexadecimal::front;
-use crate::show::number;
-use crate::show::text;
 use counters::Comparison;
 use order::CameFirst;
+use show::number;
+use show::text;
 
 pub fn order(name: &[u8], a_bytes: &[u8], b_bytes: &[u8]) {
     let mut record = [0u8; 600];

@@ -1,13 +1,13 @@
 // What the reader gives: the frame, the fields or the refusal, and the parts handed back.
 use crate::hexadecimal::decode;
 use crate::hexadecimal::front;
-use crate::show::kind;
-use crate::show::number;
-use crate::show::part;
-use crate::show::text;
 use layout::fields::Fields;
 use layout::fields::Framing;
 use layout::fields::Reading;
+use show::kind;
+use show::number;
+use show::part;
+use show::text;
 
 pub fn read(name: &[u8], bytes: &[u8]) {
     let mut record = [0u8; 600];

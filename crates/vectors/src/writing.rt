@@ -2,10 +2,6 @@
 use crate::hexadecimal::decode;
 use crate::hexadecimal::front;
 use crate::reading;
-use crate::show::bytes;
-use crate::show::number;
-use crate::show::part;
-use crate::show::text;
 use answers::Answer;
 use counters::ObjectNo;
 use counters::SlotNo;
@@ -15,6 +11,10 @@ use layout::part::behind;
 use layout::part::byte;
 use layout::part::half;
 use layout::part::word_at;
+use show::bytes;
+use show::number;
+use show::part;
+use show::text;
 
 pub fn write(name: &[u8], bytes: &[u8]) {
     let mut numbers = [0u8; 600];

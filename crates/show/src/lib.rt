@@ -1,4 +1,5 @@
-// What a line is made of: words, numbers in decimal, kinds and bytes in hexadecimal as the paper writes them.
+// What the lines of `vectors` and `steps` are made of: words, numbers in decimal, and kinds, bytes and parts in hexadecimal as
+// the paper writes them. All of it goes to standard output.
 ghost use Prim.Native.Nat.{_<_};
 
 pub fn text(words: &[u8]) {
@@ -9,6 +10,21 @@ pub fn text(words: &[u8]) {
 pub fn number(words: &[u8], n: u32) {
     text(words);
     io::print_decimal(1, n as u64);
+}
+
+// The same, twice.
+pub fn numbers(words: &[u8], n: u32, more: &[u8], m: u32) {
+    number(words, n);
+    number(more, m);
+}
+
+// Words with 1 behind them where a mark is set, else 0.
+pub fn mark(words: &[u8], set: bool) {
+    if set {
+        number(words, 1);
+    } else {
+        number(words, 0);
+    }
 }
 
 // Words with the number of a kind behind them.
