@@ -68,8 +68,14 @@ play p [] = p
 play p (event ∷ events) = play (withLine p (outcomeOf base (p .tables) event)) events
 
 -- 'first version 4294967295, word 3 is 100, the others 0'
+abbrev pub first : ℕ
+first = 4294967295
+
+abbrev pub words : List ℕ
+words = set (replicate (base .objects) 0) 3 100
+
 abbrev pub fresh : Played
-fresh = record { tables = freshTables base (set (replicate 24 0) 3 100) 4294967295; lines = [] }
+fresh = record { tables = freshTables base words first; lines = [] }
 
 abbrev pub events : List Event
 events =

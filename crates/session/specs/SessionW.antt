@@ -1,13 +1,12 @@
 -- Session W as the bytes of the bench's input, and the bytes of its whole output.
 use Prim.Native.Nat.{ℕ}
 use mathlib.Core.List.{List, [], _∷_, _++_}
-use lib.ListN.{set, replicate}
 use Rattle.layout.specs.Bytes.{wordBytes}
 use Rattle.layout.specs.Fields.{recordOf}
 use Rattle.layout.specs.declared.fields.Fields.{Fields}
 use Rattle.layout.specs.declared.fields.Fields
 use Rattle.rules.specs.Events.{Event}
-use Rattle.rules.specs.SessionW.{events}
+use Rattle.rules.specs.SessionW.{first, words, events}
 
 abbrev pub wordsBytes : List ℕ → List ℕ
 wordsBytes [] = []
@@ -17,9 +16,9 @@ abbrev pub recordsOf : List Event → List ℕ
 recordsOf [] = []
 recordsOf (event ∷ rest) = recordOf (event .fields) (event .list) ++ recordsOf rest
 
--- 'first version 4294967295, word 3 is 100, the others 0', and the twelve events
+-- the fresh record and the twelve events
 abbrev pub input : List ℕ
-input = recordOf (Fields.Fresh (record { 0 = 4294967295 })) (wordsBytes (set (replicate 24 0) 3 100)) ++ recordsOf events
+input = recordOf (Fields.Fresh (record { 0 = first })) (wordsBytes words) ++ recordsOf events
 
 -- 'Events, then the whole output', a line in each row
 abbrev pub output : List ℕ

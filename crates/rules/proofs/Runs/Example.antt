@@ -1,4 +1,4 @@
--- A small run, computed: the history, the lone run and the words as definitions give them. Slot 0 spends and adds, slot 1 reads what slot 0
+-- A small run from W's fresh tables, computed: the history, the lone run and the words as definitions give them. Slot 0 spends and adds, slot 1 reads what slot 0
 -- let go early, slot 2 is rolled back; a refused call and a refused commit leave no trace.
 use Prim.Native.Nat.{ℕ}
 use mathlib.Core.List.{List, [], _∷_, map}
@@ -9,11 +9,8 @@ use Rattle.rules.specs.Events.{Event}
 use Rattle.rules.specs.Histories.{History, Call, Status, Committed, RolledBack, Transaction}
 use Rattle.rules.specs.LoneRun.{committedCalls, loneAnswers, loneWords}
 use Rattle.rules.specs.Runs.{Run, runOf}
-use Rattle.rules.specs.SessionW.{start, call, read, add, spend, commit, rollback}
+use Rattle.rules.specs.SessionW.{start, call, read, add, spend, commit, rollback, first, words}
 use Rattle.rules.specs.Walks.{anyBelow, eachBelow, joinBelow}
-
-abbrev words : List ℕ
-words = set (replicate 24 0) 3 100
 
 abbrev events : List Event
 events =
@@ -62,7 +59,7 @@ shown run =
       words = map (λ object. object .word) (run .tables .objects);
     }
 
-pub small-run : shown (runOf base words 4294967295 events)
+pub small-run : shown (runOf base words first events)
     ≡ record { history = expected; answers = 1 ∷ 65 ∷ 65 ∷ []; alone = set (replicate 24 0) 3 65; words = set (replicate 24 0) 3 65 }
 unfolding anyBelow eachBelow joinBelow
 small-run = refl
