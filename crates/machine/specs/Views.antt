@@ -1,12 +1,11 @@
--- The machine's tables as the rules see them, what a step gives back, and the promises that a fold of steps cites.
+-- The machine's tables as the rules see them, and what a step gives back.
 use Prim.Native.Nat.{ℕ}
 use mathlib.Core.List.{List}
 use mathlib.Core.Path.{_≡_}
 use Rattle.answers.specs.Numbers.{replyOf}
 use Rattle.counters.specs.Sizes.{base}
-use Rattle.layout.specs.declared.fields.Fields.{Fields}
 use Rattle.rules.specs.Tables.{State, freshTables}
-use Rattle.rules.specs.Steps.{Stepping, Outcome, eventStep, recordStep}
+use Rattle.rules.specs.Steps.{Stepping, Outcome}
 use Rattle.machine.specs.declared.Tables.{Tables}
 use Rattle.machine.specs.declared.Stepped.{Stepped}
 
@@ -23,11 +22,3 @@ ended r buffer = record { tables = view (r .tables); reply = replyOf (r .answer)
 -- what `fresh` promises of the tables that it returns
 abbrev pub FreshGives : ℕ → List ℕ → Tables → Type 0
 FreshGives first words t = view t ≡ freshTables base words first
-
--- what `step` promises of what it returns and of the buffer afterwards
-abbrev pub StepGives : Tables → Fields → List ℕ → List ℕ → Stepped → List ℕ → Type 0
-StepGives t fields list buffer r afterwards = ended r afterwards ≡ eventStep base (view t) fields list buffer
-
--- the same of `step_record`
-abbrev pub RecordGives : Tables → List ℕ → List ℕ → Stepped → List ℕ → Type 0
-RecordGives t bytes buffer r afterwards = ended r afterwards ≡ recordStep base (view t) bytes buffer

@@ -1,22 +1,18 @@
 // The machine: its tables go in with an event, and the new tables come back with the answer.
 ghost use mathlib.Core.Path.{_≡_};
 ghost use Rattle.counters.specs.Sizes.{base};
-ghost use Rattle.rules.specs.Steps.{callStep, releaseStep, startStep, endStep, eventStep, recordStep};
+ghost use Rattle.rules.specs.Steps.{callStep, releaseStep};
 ghost use Rattle.machine.specs.Views.{view, told, FreshGives};
 
 pub mod ending;
 pub mod starting;
-pub mod stepping;
 
 use answers::Answer;
-use answers::Refusal;
 use counters::OBJECTS;
 use counters::ObjectNo;
 use counters::SLOTS;
 use counters::SlotNo;
 use counters::Version;
-use layout::fields::Fields;
-use layout::fields::Reading;
 use objects::Object;
 use objects::Pair;
 
@@ -74,7 +70,7 @@ impl Tables {
         let mut at: usize = 0;
         while at < 24 {
             let pair = self.pairs[from + at];
-            doomed = plans::either(doomed, pair.spoiled);
+            doomed = verdicts::either(doomed, pair.spoiled);
             at = at + 1;
         }
         let pair = self.pairs[from + o];

@@ -18,7 +18,7 @@ impl Tables {
         let s = (slot.0 % SLOTS) as usize;
         let from = s * 24;
         let live = self.live[s];
-        let verdict = plans::starting::verdict(slot, live, list);
+        let verdict = verdicts::starting::verdict(slot, live, list);
         let reach = verdict.reach(24);
         let end = verdict.reach(list.len());
         let none = Pair::none();
@@ -41,7 +41,7 @@ impl Tables {
             next = next + 2;
         }
         let passes = verdict.passes();
-        self.live[s] = plans::either(live, passes);
+        self.live[s] = verdicts::either(live, passes);
         let answer = verdict.answer(0);
         Stepped {
             tables: self,

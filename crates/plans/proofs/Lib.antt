@@ -1,10 +1,2 @@
-pub mod Saying
 pub mod Planned
 pub mod Placed
-pub mod PairWalk
-pub mod Reaching
-pub mod StartLoops
-pub mod Entering
-pub mod EndLoops
-pub mod EndTurns
-pub mod EndStep

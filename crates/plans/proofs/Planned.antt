@@ -12,8 +12,8 @@ use Rattle.objects.specs.declared.Object.{Object}
 use Rattle.objects.specs.declared.Pair.{Pair}
 use Rattle.rules.specs.Refusing.{callRules, releaseRules}
 use Rattle.plans.specs.Plans.{callPlan, releasePlan}
-use Rattle.plans.specs.declared.verdicts.Verdict.the-variants.{Passes, Refuses}
-use Rattle.plans.proofs.Saying.{when-passes, when-refuses}
+use Rattle.verdicts.specs.declared.Verdict.the-variants.{Passes, Refuses}
+use Rattle.verdicts.proofs.Saying.{when-passes, when-refuses}
 
 module _ (z : Size) (slot number kind argument : ℕ) (live doomed : Bool) (pair : Pair) (object : Object) where
   pub call-accepted : decide (callRules z slot number kind live doomed pair object) Refuses Passes ≡ Passes

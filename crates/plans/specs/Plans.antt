@@ -1,30 +1,15 @@
 -- What an event on one place comes to, seen from that place alone.
 use Prim.Native.Nat.{ℕ}
-use mathlib.Core.Bool.{Bool, not}
-use mathlib.Core.List.{List, [], _∷_}
-use lib.Dec.{leb}
-use Rattle.answers.specs.Order.{Rule, decide, _when_}
-use Rattle.answers.specs.declared.Refusal.the-variants.{BadSlot, BadObject, Idle, NotDeclared, Released, Wait}
+use mathlib.Core.Bool.{Bool}
+use Rattle.answers.specs.Order.{decide}
 use Rattle.answers.specs.declared.Answer.the-variants.{Accepted, Refused}
 use Rattle.counters.specs.Sizes.{Size}
 use Rattle.objects.specs.Kinds.{acted}
-use Rattle.objects.specs.Places.{turnOf, saysReleased, saysWait, calledObject, calledPair, letGo}
+use Rattle.objects.specs.Places.{calledObject, calledPair, letGo}
 use Rattle.objects.specs.declared.Object.{Object}
 use Rattle.objects.specs.declared.Pair.{Pair}
 use Rattle.rules.specs.Refusing.{callRules, releaseRules}
 use Rattle.plans.specs.declared.Plan.{Plan}
-
--- the rules that a call and a release share: whether there is such a pair, and whether it is its turn
-abbrev pub placeRules : Size → ℕ → ℕ → Bool → Pair → List Rule
-placeRules z slot number live pair =
-    BadSlot when leb (z .slots) slot
-    ∷ Idle when not live
-    ∷ BadObject when leb (z .objects) number
-    ∷ NotDeclared when not (pair .declared)
-    ∷ []
-
-abbrev pub turnRules : Size → Pair → Object → List Rule
-turnRules z pair object = Released when saysReleased (turnOf (z .slots) pair object) ∷ Wait when saysWait (turnOf (z .slots) pair object) ∷ []
 
 abbrev pub callPlan : Size → ℕ → ℕ → ℕ → ℕ → Bool → Bool → Pair → Object → Plan
 callPlan z slot number kind argument live doomed pair object =

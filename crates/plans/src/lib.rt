@@ -1,20 +1,14 @@
 // What an event on one place comes to: the answer, and the object and the pair as they shall be, unchanged where it is
 // refused.
-ghost use mathlib.Core.Bool.{_||_};
 ghost use mathlib.Core.Path.{_≡_};
 ghost use Rattle.counters.specs.Sizes.{base};
 ghost use Rattle.plans.specs.Plans.{callPlan, releasePlan};
-
-pub mod ending;
-pub mod starting;
-pub mod verdicts;
-
-use crate::verdicts::Verdict;
 use answers::Answer;
 use counters::ObjectNo;
 use counters::SlotNo;
 use objects::Object;
 use objects::Pair;
+use verdicts::Verdict;
 
 pub struct Plan {
     pub answer: Answer,
@@ -69,11 +63,4 @@ pub fn release(slot: SlotNo, number: ObjectNo, live: bool, pair: Pair, object: O
             pair,
         },
     }
-}
-
-// a or b, with no branch for a caller's loop to join.
-pub fn either(a: bool, b: bool) -> bool
-    ensures { λ r. ⌜ r ≡ (a || b) ⌝ }
-{
-    if a { true } else { b }
 }

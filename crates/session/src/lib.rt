@@ -66,7 +66,7 @@ pub fn next(tables: Tables, bytes: &[u8]) -> Answered
     ensures { λ r. ⌜ answered r ≡ benchStep base (view tables) (now (bytes .entry)) ⌝ }
 {
     let mut buffer = [0u8; 130];
-    let stepped = tables.step_record(bytes, &mut buffer);
+    let stepped = events::step_record(tables, bytes, &mut buffer);
     let after = stepped.tables;
     let answer = stepped.answer;
     Answered {

@@ -16,7 +16,7 @@ pub fn step(line: &[u8], tables: Tables) -> Tables {
     let mut buffer = [0xEEu8; 16];
     let list = bytes_from(line, 2);
     let length = pairs(line);
-    let stepped = tables.step(fields(line), &list[0..length], &mut buffer);
+    let stepped = events::step(tables, fields(line), &list[0..length], &mut buffer);
     told(line, tables, stepped, &buffer)
 }
 

@@ -1,5 +1,5 @@
 // A session is lines of text; the first word of a line says what it asks. A line that asks nothing is written as it is.
-use crate::events;
+use crate::asked;
 use crate::fields;
 use crate::given;
 use crate::looks;
@@ -50,22 +50,22 @@ fn turn(line: &[u8], board: Board) -> Board {
 
 fn event(line: &[u8], tables: Tables) -> Tables {
     if begins(line, b"start ") {
-        return events::start(line, tables);
+        return asked::start(line, tables);
     }
     if begins(line, b"call ") {
-        return events::call(line, tables);
+        return asked::call(line, tables);
     }
     if begins(line, b"release ") {
-        return events::release(line, tables);
+        return asked::release(line, tables);
     }
     if begins(line, b"commit ") {
-        return events::commit(line, tables);
+        return asked::commit(line, tables);
     }
     if begins(line, b"rollback ") {
-        return events::rollback(line, tables);
+        return asked::rollback(line, tables);
     }
     if begins(line, b"record ") {
-        return events::record(line, tables);
+        return asked::record(line, tables);
     }
     if begins(line, b"step ") {
         return fields::step(line, tables);

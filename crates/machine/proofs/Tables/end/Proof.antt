@@ -8,11 +8,11 @@ use Rattle.counters.specs.Sizes.{base}
 use Rattle.layout.specs.Writing.{written}
 use Rattle.rules.specs.Tables.{withObject}
 use Rattle.rules.proofs.Stores.{Sized}
-use Rattle.plans.proofs.Reaching.{reach-inside}
-use Rattle.plans.proofs.StartLoops.{Clearing, clears-on}
-use Rattle.plans.proofs.EndLoops.{Seeing, sees-first, sees-on, Spoiling, spoils-on}
-use Rattle.plans.proofs.EndTurns.{Ending, ends-first, spoils-first, ends-on, clears-first}
-use Rattle.plans.proofs.EndStep.{end-step}
+use Rattle.verdicts.proofs.Reaching.{reach-inside}
+use Rattle.verdicts.proofs.StartLoops.{Clearing, clears-on}
+use Rattle.ends.proofs.EndLoops.{Seeing, sees-first, sees-on, Spoiling, spoils-on}
+use Rattle.ends.proofs.EndTurns.{Ending, ends-first, spoils-first, ends-on, clears-first}
+use Rattle.ends.proofs.EndStep.{end-step}
 use Rattle.machine.specs.Views.{view}
 use borrow.Author.Needs.{needs}
 use Rattle.machine.proofs.Tables.end.Statement.{statement}
@@ -65,11 +65,6 @@ loop-again c =
     let begin = turn .before .before .before .before .before in
     sees-on base (view (begin .args .t1)) (begin .args .slot .0 % base .slots) (seeing .at) (seeing .sight) (turn .loop-test .taken) (omega arith) (seeing .inv)
     (c .look .result) (c .look .ensures)
-
-write-requires : tie.Need-write-requires Inv-loop μ-loop Inv-loop3 μ-loop3 Inv-loop2 μ-loop2 Inv-loop4 μ-loop4
-write-requires c κs =
-    let seeing = c .before .before .before .before .before .loop in
-    omega (arith, seeing .inv .few, seeing .inv .reached)
 
 loop2-holds : tie.Need-loop2-holds Inv-loop μ-loop Inv-loop3 μ-loop3 Inv-loop2 μ-loop2 Inv-loop4 μ-loop4
 loop2-holds c =
@@ -178,7 +173,7 @@ end-spec =
     (λ c. search needs)
     (λ c. search needs)
     (λ c κs. search needs)
-    write-requires
+    (λ c κs. search needs)
     (λ c κs. search needs)
     loop2-holds
     (λ c. search needs)

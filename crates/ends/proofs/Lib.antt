@@ -1,0 +1,4 @@
+pub mod Entering
+pub mod EndLoops
+pub mod EndTurns
+pub mod EndStep

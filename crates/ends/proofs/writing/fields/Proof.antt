@@ -1,0 +1,12 @@
+-- `ends::writing::fields` meets its promise.
+use Rattle.ends.proofs.writing.fields.Statement.{statement}
+use Rattle.ends.proofs.writing.fields.Tie as tie
+
+returns : tie.Need-returns
+returns c = rw (c .if1 .taken)
+
+returns-2 : tie.Need-returns-2
+returns-2 c = rw (c .if1 .left)
+
+pub fields-spec : {M : Type 1} → statement M
+fields-spec = tie.close (tie.spec returns returns-2)

@@ -1,0 +1,18 @@
+-- The promises of a step by fields and of a step by bytes, which a fold of steps cites.
+use Prim.Native.Nat.{ℕ}
+use mathlib.Core.List.{List}
+use mathlib.Core.Path.{_≡_}
+use Rattle.counters.specs.Sizes.{base}
+use Rattle.layout.specs.declared.fields.Fields.{Fields}
+use Rattle.machine.specs.Views.{view, ended}
+use Rattle.machine.specs.declared.Tables.{Tables}
+use Rattle.machine.specs.declared.Stepped.{Stepped}
+use Rattle.rules.specs.Steps.{eventStep, recordStep}
+
+-- what `step` promises of what it returns and of the buffer afterwards
+abbrev pub StepGives : Tables → Fields → List ℕ → List ℕ → Stepped → List ℕ → Type 0
+StepGives t fields list buffer r afterwards = ended r afterwards ≡ eventStep base (view t) fields list buffer
+
+-- the same of `step_record`
+abbrev pub RecordGives : Tables → List ℕ → List ℕ → Stepped → List ℕ → Type 0
+RecordGives t bytes buffer r afterwards = ended r afterwards ≡ recordStep base (view t) bytes buffer

@@ -1,0 +1,4 @@
+pub mod Saying
+pub mod PairWalk
+pub mod Reaching
+pub mod StartLoops

@@ -1,0 +1,29 @@
+-- `verdicts::release` meets its promise.
+use mathlib.Core.Path.{sym, _∙_}
+use Rattle.answers.specs.Order.{decide}
+use Rattle.counters.specs.Sizes.{base}
+use Rattle.verdicts.specs.SharedRules.{placeRules, turnRules}
+use Rattle.verdicts.specs.declared.Verdict.the-variants.{Passes, Refuses}
+use Rattle.verdicts.proofs.Saying.{when-passes, when-refuses}
+use borrow.Author.Needs.{needs}
+use Rattle.verdicts.proofs.release.Statement.{statement}
+use Rattle.verdicts.proofs.release.Tie as tie
+
+returns : tie.Need-returns
+returns c =
+    let told = c .before in
+    let placed = told .before .before in
+    let a = placed .before .args in
+    sym (when-refuses (placeRules base (a .slot .0) (a .number .0) (a .live) (a .pair)) (told .refusal .given .0 .0) (sym (placed .place .ensures) ∙ told .refusal .given .1) Refuses (decide (turnRules base (a .pair) (a .object)) Refuses Passes))
+
+returns-2 : tie.Need-returns-2
+returns-2 c =
+    let told = c .before in
+    let placed = told .before .before in
+    let a = placed .before .args in
+    c .turn .ensures ∙ sym (when-passes (placeRules base (a .slot .0) (a .number .0) (a .live) (a .pair)) (sym (placed .place .ensures) ∙ told .enum-told .given .1) Refuses (decide (turnRules base (a .pair) (a .object)) Refuses Passes))
+
+pub release-spec : {M : Type 1} → statement M
+release-spec =
+    tie.close
+    (tie.spec (λ c κs. search needs) (λ c. search needs) (λ c. search needs) (λ c κs. search needs) returns returns-2)
