@@ -19,8 +19,7 @@ use Rattle.layout.specs.Kinds.{bodyLimit}
 use Rattle.layout.specs.Fields.{bodyOf, recordOf}
 use Rattle.layout.specs.Writing.{Written}
 use Rattle.layout.proofs.Placing.{room-placed}
-use Rattle.objects.specs.Places.{noPair}
-use Rattle.rules.specs.Tables.{State, liveAt, pairAt, objectAt, withLive, withPair}
+use Rattle.rules.specs.Tables.{State, liveAt, pairAt, objectAt, withLive}
 use Rattle.rules.specs.Walks.{anyBelow, eachBelow}
 use Rattle.rules.specs.Refusing.{doomed, unmet, misses, endRules}
 use Rattle.rules.specs.Effects.{endEntries, endFields, endRecord, endTurn, endEffect, clearSlot}
@@ -33,8 +32,8 @@ use Rattle.ends.specs.declared.Sight.{Sight}
 use Rattle.verdicts.specs.declared.Verdict.{Verdict}
 use Rattle.verdicts.specs.declared.Verdict.the-variants.{Passes, Refuses}
 use Rattle.verdicts.proofs.Saying.{when-passes, when-refuses}
-use Rattle.verdicts.proofs.StartLoops.{Clearing, clearedTo}
 use Rattle.ends.proofs.EndLoops.{Seeing, entriesTo}
+use Rattle.ends.proofs.Clearing.{endCleared, cleared-behind}
 use Rattle.ends.proofs.EndTurns.{Ending}
 
 -- the rules, as the step has them
@@ -77,12 +76,12 @@ module _ (z : Size) (rollback : Bool) (t : State) (slot s tick : ℕ) (buffer : 
     (sight : Sight) (n : ℕ) (all-seen : z .objects ≤ n) (seeing : Seeing z t s n sight)
     (verdict : Verdict)
     (says : verdict ≡ decide (endRules z rollback slot (liveAt t s) (sight .doomed) (sight .unmet) (ltb (length buffer) (10 + sight .bytes))) Refuses Passes)
-    (reach o at : ℕ) (t₂ t₃ : State) (is-reach : reach ≡ reachOf verdict (z .objects))
-    (all-ended : reach ≤ o) (ending : Ending z rollback s reach o t t₂) (all-cleared : reach ≤ at) (clearing : Clearing z s reach at t₂ t₃)
+    (reach o : ℕ) (t₂ : State) (is-reach : reach ≡ reachOf verdict (z .objects))
+    (all-ended : reach ≤ o) (ending : Ending z rollback s reach o t t₂)
     (live : Bool) (is-live : live ≡ liveAfter verdict (liveAt t s))
     (wrote : Written) (is-written : wrote ≡ endWriting z verdict rollback slot tick (take (sight .bytes) (sight .entries)) buffer) where
   outcome : Outcome
-  outcome = record { tables = withLive t₃ s live; reply = wrote .reply; buffer = wrote .buffer }
+  outcome = record { tables = withLive t₂ s live; reply = wrote .reply; buffer = wrote .buffer }
 
   made : Outcome
   made =
@@ -98,11 +97,9 @@ module _ (z : Size) (rollback : Bool) (t : State) (slot s tick : ℕ) (buffer : 
   nothing-done refusal e =
       let none : reach ≡ 0 = is-reach ∙ ap (λ (v : Verdict). reachOf v (z .objects)) e in
       let no-turn : o ≡ 0 = omega (arith, ending .reached) in
-      let no-clearing : at ≡ 0 = omega (arith, clearing .reached) in
-      let ended-is : t₂ ≡ t = ending .ended-to ∙ ap (λ (k : ℕ). eachBelow k (λ o u. endTurn z rollback s o u) t) no-turn ∙ each-zero (λ o u. endTurn z rollback s o u) t in
-      let cleared-is : t₃ ≡ t₂ = clearing .cleared ∙ ap (λ (k : ℕ). clearedTo z s k t₂) no-clearing ∙ each-zero (λ o u. withPair z u s o noPair) t₂ in
+      let ended-is : t₂ ≡ t = ending .ended-to ∙ ap (λ (k : ℕ). eachBelow k (λ o u. endCleared z rollback s o u) t) no-turn ∙ each-zero (λ o u. endCleared z rollback s o u) t in
       let as-it-was : live ≡ liveAt t s = is-live ∙ ap (λ (v : Verdict). liveAfter v (liveAt t s)) e in
-      let tables : withLive t₃ s live ≡ t = (λ i. withLive ((cleared-is ∙ ended-is) i) s (as-it-was i)) ∙ live-kept t s in
+      let tables : withLive t₂ s live ≡ t = (λ i. withLive (ended-is i) s (as-it-was i)) ∙ live-kept t s in
       let nothing : wrote ≡ record { reply = refused refusal; buffer = buffer } =
       is-written ∙ ap (λ (v : Verdict). endWriting z v rollback slot tick (take (sight .bytes) (sight .entries)) buffer) e in
       λ i. record { tables = tables i; reply = nothing i .reply; buffer = nothing i .buffer }
@@ -130,14 +127,13 @@ module _ (z : Size) (rollback : Bool) (t : State) (slot s tick : ℕ) (buffer : 
     all-done e room =
         let all : reach ≡ z .objects = is-reach ∙ ap (λ (v : Verdict). reachOf v (z .objects)) e in
         let each-ended : o ≡ z .objects = omega (arith, ending .reached) in
-        let each-cleared : at ≡ z .objects = omega (arith, clearing .reached) in
         let cleared : live ≡ false = is-live ∙ ap (λ (v : Verdict). liveAfter v (liveAt t s)) e in
-        let ended-is : t₂ ≡ eachBelow (z .objects) (λ o u. endTurn z rollback s o u) t =
-        ending .ended-to ∙ ap (λ (k : ℕ). eachBelow k (λ o u. endTurn z rollback s o u) t) each-ended in
-        let cleared-is : t₃ ≡ clearSlot z s t₂ = clearing .cleared ∙ ap (λ (k : ℕ). clearedTo z s k t₂) each-cleared in
-        let tables : withLive t₃ s live ≡ endEffect z rollback slot t =
-        (λ i. withLive (cleared-is i) s (cleared i))
-        ∙ ap (λ (u : State). withLive (clearSlot z s u) s false) ended-is
+        let ended-is : t₂ ≡ clearSlot z s (eachBelow (z .objects) (λ o u. endTurn z rollback s o u) t) =
+        ending .ended-to
+        ∙ ap (λ (k : ℕ). eachBelow k (λ o u. endCleared z rollback s o u) t) each-ended
+        ∙ cleared-behind z rollback s (z .objects) t (omega arith) in
+        let tables : withLive t₂ s live ≡ endEffect z rollback slot t =
+        (λ i. withLive (ended-is i) s (cleared i))
         ∙ (λ i. withLive (clearSlot z (same i) (eachBelow (z .objects) (λ o u. endTurn z rollback (same i) o u) t)) (same i) false) in
         let fits : length (bodyOf (endFields rollback tick slot) (endEntries z slot t)) ≤ bodyLimit z =
         omega (arith, end-body rollback tick slot (endEntries z slot t), seen-length, seeing .few, every) in
@@ -161,11 +157,11 @@ module _ (z : Size) (rollback : Bool) (t : State) (slot s tick : ℕ) (buffer : 
             nothing-done refusal e
             ∙ sym (when-refuses (rulesOf z rollback t slot tick buffer) refusal (sym seen-says ∙ e) (λ refusal. beside buffer (unchanged t refusal)) made)
 
-  pub end-step : record { tables = withLive t₃ s live; reply = wrote .reply; buffer = wrote .buffer } ≡ endStep z rollback t slot tick buffer
+  pub end-step : record { tables = withLive t₂ s live; reply = wrote .reply; buffer = wrote .buffer } ≡ endStep z rollback t slot tick buffer
   unfolding outcome made
   end-step = by-slot (leb (z .slots) slot) refl
     where
-      by-slot : (b : Bool) → leb (z .slots) slot ≡ b → record { tables = withLive t₃ s live; reply = wrote .reply; buffer = wrote .buffer } ≡ endStep z rollback t slot tick buffer
+      by-slot : (b : Bool) → leb (z .slots) slot ≡ b → record { tables = withLive t₂ s live; reply = wrote .reply; buffer = wrote .buffer } ≡ endStep z rollback t slot tick buffer
       by-slot true e =
           nothing-done BadSlot (says ∙ out-of-range z rollback slot _ _ _ _ e)
           ∙ sym

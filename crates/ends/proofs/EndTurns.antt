@@ -1,4 +1,4 @@
--- An end, object by object: the object stored and the others spoiled are one turn of the rules.
+-- An end, object by object: the object stored and the others spoiled are one turn of the rules, and the slot's pair is zero behind it.
 use Prim.Native.Nat.{ℕ, _+_, _≤_, _<_}
 use mathlib.Core.Bool.{Bool, true, false, _&&_}
 use mathlib.Core.Path.{_≡_, refl, sym, ap, _∙_}
@@ -13,11 +13,11 @@ use Rattle.objects.specs.declared.Pair.{Pair}
 use Rattle.rules.specs.Tables.{State, objectAt, pairAt, withObject, withPair}
 use Rattle.rules.specs.Walks.{eachBelow}
 use Rattle.rules.specs.Effects.{spoilOne, spoilOthers, restoreOne, endOne, endTurn}
-use Rattle.rules.proofs.Stores.{Sized, sized-object, object-kept}
+use Rattle.rules.proofs.Stores.{Sized, sized-object, sized-pair, object-kept}
 use Rattle.rules.proofs.Walking.{each-zero, each-next}
 use Rattle.rules.proofs.Restored.{restore-keeps, restore-object}
 use Rattle.ends.specs.Ends.{endedObject, spreadOf}
-use Rattle.verdicts.proofs.StartLoops.{Clearing}
+use Rattle.ends.proofs.Clearing.{endCleared}
 use Rattle.ends.proofs.EndLoops.{Spoiling, spoils-beside}
 
 first-of-both : (a b : Bool) → (a && b) ≡ true → a ≡ true
@@ -79,16 +79,16 @@ module _ (z : Size) (s o : ℕ) (u : State) (sized : Sized z u) (inside : o < z 
           (λ i. eachBelow (all i) (λ r w. spoilOne z s o r w) (withObject u o (object i))) ∙ back e
       go false e = rw e (each-zero (λ r w. spoilOne z s o r w) _ ∙ plain)
 
--- what the second loop keeps: the objects that it has passed are ended
+-- what the second loop keeps: the objects that it has passed are ended, and the slot's pairs on them zero
 pub record Ending (z : Size) (rollback : Bool) (s reach o : ℕ) (t₀ t : State) : Type 0 where
   pub inside : reach ≤ z .objects
   pub reached : o ≤ reach
   pub sized : Sized z t
-  pub ended-to : t ≡ eachBelow o (λ o u. endTurn z rollback s o u) t₀
+  pub ended-to : t ≡ eachBelow o (λ o u. endCleared z rollback s o u) t₀
 
 pub ends-first : (z : Size) (rollback : Bool) (s reach : ℕ) (t : State) → reach ≤ z .objects → Sized z t → Ending z rollback s reach 0 t t
 ends-first z rollback s reach t inside sized =
-    record { inside = inside; reached = omega arith; sized = sized; ended-to = sym (each-zero (λ o u. endTurn z rollback s o u) t) }
+    record { inside = inside; reached = omega arith; sized = sized; ended-to = sym (each-zero (λ o u. endCleared z rollback s o u) t) }
 
 -- the inner loop begins behind the store of the object
 pub spoils-first : (z : Size) (rollback : Bool) (s reach o spread : ℕ) (t₀ u : State) (object : Object) → Ending z rollback s reach o t₀ u
@@ -108,24 +108,22 @@ spoils-first z rollback s reach o spread t₀ u object ending e =
         go true = omega arith
         go false = omega arith
 
-pub ends-on : (z : Size) (rollback : Bool) (s reach o spread r : ℕ) (t₀ u t : State) (object : Object) → o < reach → Ending z rollback s reach o t₀ u
+pub ends-on : (z : Size) (rollback : Bool) (s reach o spread r : ℕ) (t₀ u t : State) (object : Object) (pair : Pair) → o < reach → Ending z rollback s reach o t₀ u
     → object ≡ endedObject z rollback (pairAt z u s o) (objectAt u o) → spread ≡ spreadOf z rollback (pairAt z u s o)
-    → spread ≤ r → Spoiling z s o spread r (withObject u o object) t → Ending z rollback s reach (o + 1) t₀ t
-ends-on z rollback s reach o spread r t₀ u t object more ending is-object is-spread all spoiling =
+    → spread ≤ r → Spoiling z s o spread r (withObject u o object) t → pair ≡ noPair → Ending z rollback s reach (o + 1) t₀ (withPair z t s o pair)
+ends-on z rollback s reach o spread r t₀ u t object pair more ending is-object is-spread all spoiling none =
     let done : r ≡ spread = omega (arith, spoiling .reached) in
     let below : o < z .objects = omega (arith, ending .inside) in
+    let turned : t ≡ endTurn z rollback s o u =
+    spoiling .spoiled
+    ∙ (λ i. eachBelow ((done ∙ is-spread) i) (λ r w. spoilOne z s o r w) (withObject u o (is-object i)))
+    ∙ turn-ended z s o u (ending .sized) below rollback in
     record {
       inside = ending .inside;
       reached = omega arith;
-      sized = spoiling .sized;
+      sized = sized-pair z t (spoiling .sized) s o pair;
       ended-to =
-          spoiling .spoiled
-          ∙ (λ i. eachBelow ((done ∙ is-spread) i) (λ r w. spoilOne z s o r w) (withObject u o (is-object i)))
-          ∙ turn-ended z s o u (ending .sized) below rollback
-          ∙ ap (endTurn z rollback s o) (ending .ended-to)
-          ∙ sym (each-next (λ o u. endTurn z rollback s o u) t₀ o);
+          (λ i. withPair z (turned i) s o (none i))
+          ∙ ap (endCleared z rollback s o) (ending .ended-to)
+          ∙ sym (each-next (λ o u. endCleared z rollback s o u) t₀ o);
     }
-
--- the last loop clears the slot
-pub clears-first : (z : Size) (s reach : ℕ) (t : State) → reach ≤ z .objects → Clearing z s reach 0 t t
-clears-first z s reach t inside = record { inside = inside; reached = omega arith; cleared = sym (each-zero (λ o u. withPair z u s o noPair) t) }

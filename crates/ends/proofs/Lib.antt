@@ -1,4 +1,5 @@
 pub mod Entering
 pub mod EndLoops
+pub mod Clearing
 pub mod EndTurns
 pub mod EndStep

@@ -43,6 +43,7 @@ impl Tables {
         let verdict = ends::verdict(slot, rollback, live, sight.doomed, sight.unmet, short);
         let answer = ends::writing::write(verdict, rollback, slot, tick, sight, buf);
         let reach = verdict.reach(24);
+        let none = Pair::none();
         let mut o: usize = 0;
         while o < reach {
             let pair = self.pairs[from + o];
@@ -57,13 +58,8 @@ impl Tables {
                 self.pairs[r * 24 + o] = ends::spoil(s, r, alive, other);
                 r = r + 1;
             }
+            self.pairs[from + o] = none;
             o = o + 1;
-        }
-        let none = Pair::none();
-        let mut gone: usize = 0;
-        while gone < reach {
-            self.pairs[from + gone] = none;
-            gone = gone + 1;
         }
         self.live[s] = ends::stays_live(verdict, live);
         Stepped {

@@ -9,9 +9,8 @@ use Rattle.layout.specs.Writing.{written}
 use Rattle.rules.specs.Tables.{withObject}
 use Rattle.rules.proofs.Stores.{Sized}
 use Rattle.verdicts.proofs.Reaching.{reach-inside}
-use Rattle.verdicts.proofs.StartLoops.{Clearing, clears-on}
 use Rattle.ends.proofs.EndLoops.{Seeing, sees-first, sees-on, Spoiling, spoils-on}
-use Rattle.ends.proofs.EndTurns.{Ending, ends-first, spoils-first, ends-on, clears-first}
+use Rattle.ends.proofs.EndTurns.{Ending, ends-first, spoils-first, ends-on}
 use Rattle.ends.proofs.EndStep.{end-step}
 use Rattle.machine.specs.Views.{view}
 use borrow.Author.Needs.{needs}
@@ -25,40 +24,34 @@ abbrev μ-loop : tie.MeasureT-loop
 μ-loop slot tick rollback buf self s from sight₀ at₀ sight at = base .objects - at
 
 abbrev Inv-loop3 : tie.InvT-loop3
-Inv-loop3 tick rollback buf self₀ s from at live short verdict answer reach o spread r₀ self r = Spoiling base s o spread r (view self₀) (view self)
+Inv-loop3 tick rollback buf self₀ s from at live short verdict answer reach none o spread r₀ self r = Spoiling base s o spread r (view self₀) (view self)
 
 abbrev μ-loop3 : tie.MeasureT-loop3
-μ-loop3 tick rollback buf self₀ s from at live short verdict answer reach o spread r₀ self r = spread - r
+μ-loop3 tick rollback buf self₀ s from at live short verdict answer reach none o spread r₀ self r = spread - r
 
 abbrev Inv-loop2 : tie.InvT-loop2
-Inv-loop2 tick rollback buf self₀ s from at live short verdict answer reach o₀ self o = Ending base rollback s reach o (view self₀) (view self)
+Inv-loop2 tick rollback buf self₀ s from at live short verdict answer reach none o₀ self o = Ending base rollback s reach o (view self₀) (view self)
 
 abbrev μ-loop2 : tie.MeasureT-loop2
-μ-loop2 tick rollback buf self₀ s from at live short verdict answer reach o₀ self o = reach - o
-
-abbrev Inv-loop4 : tie.InvT-loop4
-Inv-loop4 tick rollback buf self₀ s from at live short verdict answer reach o none gone₀ self gone = Clearing base s reach gone (view self₀) (view self)
-
-abbrev μ-loop4 : tie.MeasureT-loop4
-μ-loop4 tick rollback buf self₀ s from at live short verdict answer reach o none gone₀ self gone = reach - gone
+μ-loop2 tick rollback buf self₀ s from at live short verdict answer reach none o₀ self o = reach - o
 
 -- an array of structs has the length of what it is made to in memory
 mapped-long : {X Y : Type 0} (f : X → Y) (l : List X) (n : ℕ) → length (map f l) ≡ n → length l ≡ n
 mapped-long f l n e = sym (length-map l f) ∙ e
 
-sized : (c : tie.Start Inv-loop μ-loop Inv-loop3 μ-loop3 Inv-loop2 μ-loop2 Inv-loop4 μ-loop4) → Sized base (view (c .args .t1))
+sized : (c : tie.Start Inv-loop μ-loop Inv-loop3 μ-loop3 Inv-loop2 μ-loop2) → Sized base (view (c .args .t1))
 sized c = record { objects = search (needs, mapped-long); live = search needs; pairs = search (needs, mapped-long) }
 
 -- the function's entry, seen from where the verdict's reach is known
-abbrev beginning : tie.After-reach Inv-loop μ-loop Inv-loop3 μ-loop3 Inv-loop2 μ-loop2 Inv-loop4 μ-loop4 → tie.Start Inv-loop μ-loop Inv-loop3 μ-loop3 Inv-loop2 μ-loop2 Inv-loop4 μ-loop4
+abbrev beginning : tie.After-reach Inv-loop μ-loop Inv-loop3 μ-loop3 Inv-loop2 μ-loop2 → tie.Start Inv-loop μ-loop Inv-loop3 μ-loop3 Inv-loop2 μ-loop2
 beginning c = c .before .before .before .before .before .before .before .before .before .before .before .before .before
 
-loop-holds : tie.Need-loop-holds Inv-loop μ-loop Inv-loop3 μ-loop3 Inv-loop2 μ-loop2 Inv-loop4 μ-loop4
+loop-holds : tie.Need-loop-holds Inv-loop μ-loop Inv-loop3 μ-loop3 Inv-loop2 μ-loop2
 loop-holds c =
     let begin = c .before .before .before in
     sees-first base (view (begin .args .t1)) (begin .args .slot .0 % base .slots) (c .none .result) (c .none .ensures)
 
-loop-again : tie.Need-loop-again Inv-loop μ-loop Inv-loop3 μ-loop3 Inv-loop2 μ-loop2 Inv-loop4 μ-loop4
+loop-again : tie.Need-loop-again Inv-loop μ-loop Inv-loop3 μ-loop3 Inv-loop2 μ-loop2
 loop-again c =
     let turn = c .before .before .before in
     let seeing = turn .before .loop in
@@ -66,70 +59,54 @@ loop-again c =
     sees-on base (view (begin .args .t1)) (begin .args .slot .0 % base .slots) (seeing .at) (seeing .sight) (turn .loop-test .taken) (omega arith) (seeing .inv)
     (c .look .result) (c .look .ensures)
 
-loop2-holds : tie.Need-loop2-holds Inv-loop μ-loop Inv-loop3 μ-loop3 Inv-loop2 μ-loop2 Inv-loop4 μ-loop4
+loop2-holds : tie.Need-loop2-holds Inv-loop μ-loop Inv-loop3 μ-loop3 Inv-loop2 μ-loop2
 loop2-holds c =
-    let verdict = c .before .before .before .before .before in
-    let begin = beginning c in
-    ends-first base (begin .args .rollback) (begin .args .slot .0 % base .slots) (c .reach .result) (view (begin .args .t1))
-    (rw (c .reach .ensures) (reach-inside (verdict .verdict .result) (base .objects))) (sized begin)
+    let reach = c .before in
+    let verdict = reach .before .before .before .before .before in
+    let begin = beginning reach in
+    ends-first base (begin .args .rollback) (begin .args .slot .0 % base .slots) (reach .reach .result) (view (begin .args .t1))
+    (rw (reach .reach .ensures) (reach-inside (verdict .verdict .result) (base .objects))) (sized begin)
 
-loop3-holds : tie.Need-loop3-holds Inv-loop μ-loop Inv-loop3 μ-loop3 Inv-loop2 μ-loop2 Inv-loop4 μ-loop4
+loop3-holds : tie.Need-loop3-holds Inv-loop μ-loop Inv-loop3 μ-loop3 Inv-loop2 μ-loop2
 loop3-holds c =
     let turn = c .before .before .before .before in
     let ending = turn .before .loop2 in
-    let reach = turn .before .before in
+    let reach = turn .before .before .before in
     let begin = beginning reach in
     spoils-first base (begin .args .rollback) (begin .args .slot .0 % base .slots) (reach .reach .result) (ending .o) (c .spread .result)
     (view (begin .args .t1)) (view (ending .self)) (c .before .object3 .result) (ending .inv) (c .spread .ensures)
 
-loop3-again : tie.Need-loop3-again Inv-loop μ-loop Inv-loop3 μ-loop3 Inv-loop2 μ-loop2 Inv-loop4 μ-loop4
+loop3-again : tie.Need-loop3-again Inv-loop μ-loop Inv-loop3 μ-loop3 Inv-loop2 μ-loop2
 loop3-again c =
     let asked = c .before .before .before in
     let spoiling = asked .before .loop3 in
     let spread = asked .before .before in
     let turn = spread .before .before .before .before in
     let ending = turn .before .loop2 in
-    let begin = beginning (turn .before .before) in
+    let begin = beginning (turn .before .before .before) in
     spoils-on base (begin .args .slot .0 % base .slots) (ending .o) (spread .spread .result) (spoiling .r)
     (withObject (view (ending .self)) (ending .o) (spread .before .object3 .result)) (view (spoiling .self)) (c .spoil .result)
     (asked .loop3-test .taken) (c .spoil .ensures) (spoiling .inv)
 
-loop2-again : tie.Need-loop2-again Inv-loop μ-loop Inv-loop3 μ-loop3 Inv-loop2 μ-loop2 Inv-loop4 μ-loop4
+loop2-again : tie.Need-loop2-again Inv-loop μ-loop Inv-loop3 μ-loop3 Inv-loop2 μ-loop2
 loop2-again c =
     let spoiling = c .before .loop3 in
     let spread = c .before .before in
     let turn = spread .before .before .before .before in
     let ending = turn .before .loop2 in
-    let reach = turn .before .before in
+    let none = turn .before .before in
+    let reach = none .before in
     let begin = beginning reach in
     ends-on base (begin .args .rollback) (begin .args .slot .0 % base .slots) (reach .reach .result) (ending .o) (spread .spread .result) (spoiling .r)
-    (view (begin .args .t1)) (view (ending .self)) (view (spoiling .self)) (spread .before .object3 .result)
+    (view (begin .args .t1)) (view (ending .self)) (view (spoiling .self)) (spread .before .object3 .result) (none .none2 .result)
     (turn .loop2-test .taken) (ending .inv) (spread .before .object3 .ensures) (spread .spread .ensures) (c .loop3-test .left) (spoiling .inv)
+    (none .none2 .ensures)
 
-loop4-holds : tie.Need-loop4-holds Inv-loop μ-loop Inv-loop3 μ-loop3 Inv-loop2 μ-loop2 Inv-loop4 μ-loop4
-loop4-holds c =
-    let ending = c .before .before .loop2 in
-    let reach = c .before .before .before in
-    let begin = beginning reach in
-    clears-first base (begin .args .slot .0 % base .slots) (reach .reach .result) (view (ending .self)) (ending .inv .inside)
-
-loop4-again : tie.Need-loop4-again Inv-loop μ-loop Inv-loop3 μ-loop3 Inv-loop2 μ-loop2 Inv-loop4 μ-loop4
-loop4-again c =
-    let clearing = c .before .loop4 in
-    let none = c .before .before in
-    let ending = none .before .before .loop2 in
-    let reach = none .before .before .before in
-    let begin = beginning reach in
-    clears-on base (begin .args .slot .0 % base .slots) (reach .reach .result) (clearing .gone) (view (ending .self)) (view (clearing .self))
-    (none .none2 .result) (c .loop4-test .taken) (none .none2 .ensures) (clearing .inv)
-
-returns : tie.Need-returns Inv-loop μ-loop Inv-loop3 μ-loop3 Inv-loop2 μ-loop2 Inv-loop4 μ-loop4
+returns : tie.Need-returns Inv-loop μ-loop Inv-loop3 μ-loop3 Inv-loop2 μ-loop2
 returns c =
-    let cleared = c .before in
-    let clearing = cleared .before .loop4 in
-    let ended = cleared .before .before .before in
+    let ended = c .before in
     let ending = ended .before .loop2 in
-    let reach = ended .before .before in
+    let reach = ended .before .before .before in
     let wrote = reach .before .before .before in
     let verdict = wrote .before .before in
     let seen = verdict .before .before .before in
@@ -139,8 +116,8 @@ returns c =
     end-step base (begin .args .rollback) (view (begin .args .t1)) slot (slot % base .slots) (begin .args .tick) (begin .args .buf .now) (λ in-range. omega arith)
     (seeing .sight) (seeing .at) (seen .loop-test .left) (seeing .inv)
     (verdict .verdict .result) (verdict .verdict .ensures)
-    (reach .reach .result) (ending .o) (clearing .gone) (view (ending .self)) (view (clearing .self)) (reach .reach .ensures)
-    (ended .loop2-test .left) (ending .inv) (cleared .loop4-test .left) (clearing .inv)
+    (reach .reach .result) (ending .o) (view (ending .self)) (reach .reach .ensures)
+    (ended .loop2-test .left) (ending .inv)
     (c .stays-live .result) (c .stays-live .ensures)
     (written (wrote .write .result) (wrote .write .last .1 .1 .1 .1 .1 .0)) (wrote .write .ensures)
 
@@ -154,8 +131,6 @@ end-spec =
     μ-loop3
     Inv-loop2
     μ-loop2
-    Inv-loop4
-    μ-loop4
     (λ c. search needs)
     (λ c. search needs)
     (λ c κs. search needs)
@@ -172,6 +147,7 @@ end-spec =
     loop-again
     (λ c. search needs)
     (λ c. search needs)
+    (λ c κs. search needs)
     (λ c κs. search needs)
     (λ c κs. search needs)
     (λ c κs. search needs)
@@ -201,15 +177,10 @@ end-spec =
     loop3-again
     (λ c. search needs)
     (λ c. search needs)
+    (λ c. search needs)
+    (λ c. search needs)
+    (λ c. search needs)
     loop2-again
-    (λ c κs. search needs)
-    loop4-holds
-    (λ c. search needs)
-    (λ c. search needs)
-    (λ c. search needs)
-    (λ c. search needs)
-    (λ c. search needs)
-    loop4-again
     (λ c κs. search needs)
     (λ c. search needs)
     (λ c. search needs)
