@@ -46,19 +46,21 @@ impl Tables {
         let none = Pair::none();
         let mut o: usize = 0;
         while o < reach {
-            let pair = self.pairs[from + o];
+            let own = from + o;
+            let pair = self.pairs[own];
             let object = self.objects[o];
             self.objects[o] = ends::object(rollback, pair, object);
             // Every other live slot that has called a restored object becomes spoiled on it.
             let spread = ends::spread(rollback, pair);
             let mut r: usize = 0;
             while r < spread {
-                let other = self.pairs[r * 24 + o];
+                let place = r * 24 + o;
+                let other = self.pairs[place];
                 let alive = self.live[r];
-                self.pairs[r * 24 + o] = ends::spoil(s, r, alive, other);
+                self.pairs[place] = ends::spoil(s, r, alive, other);
                 r = r + 1;
             }
-            self.pairs[from + o] = none;
+            self.pairs[own] = none;
             o = o + 1;
         }
         self.live[s] = ends::stays_live(verdict, live);

@@ -73,7 +73,8 @@ impl Tables {
             doomed = verdicts::either(doomed, pair.spoiled);
             at = at + 1;
         }
-        let pair = self.pairs[from + o];
+        let place = from + o;
+        let pair = self.pairs[place];
         let object = self.objects[o];
         let live = self.live[s];
         let plan = plans::call(slot, number, kind, argument, live, doomed, pair, object);
@@ -81,7 +82,7 @@ impl Tables {
         let next_pair = plan.pair;
         let answer = plan.answer;
         self.objects[o] = next;
-        self.pairs[from + o] = next_pair;
+        self.pairs[place] = next_pair;
         Stepped {
             tables: self,
             answer,

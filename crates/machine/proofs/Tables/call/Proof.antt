@@ -1,11 +1,12 @@
 -- `machine::Tables::call` meets its promise.
-use Prim.Native.Nat.{ℕ, _≤_, _<_, _-_, _%_}
+use Prim.Native.Nat.{ℕ, _≤_, _-_, _%_}
 use Rattle.rules.specs.Tables.{objectAt, liveAt, pairAt}
 use Rattle.plans.specs.Plans.{callPlan}
 use Rattle.rules.specs.Refusing.{doomed}
 use borrow.Author.Needs.{needs}
 use mathlib.Core.Path.{_≡_, sym, ap, _∙_}
 use mathlib.Core.Bool.{Bool, _||_}
+use native.Mathlib.Nat.{mod-eq-of-lt}
 use native.Mathlib.Omega.{arith}
 use Rattle.counters.specs.Sizes.{base}
 use Rattle.rules.specs.Walks.{anyBelow}
@@ -45,14 +46,12 @@ returns c =
     let slot = a .slot .0 in
     let number = a .number .0 in
     let t = view (a .t1) in
-    let right-slot : slot < base .slots → slot % 16 ≡ slot = λ h. omega arith in
-    let right-object : number < base .objects → number % 24 ≡ number = λ h. omega arith in
     let all : met .at ≡ 24 = omega (arith, met .inv .0, left .loop-test .left) in
     let is-doomed : met .doomed ≡ doomed base t (slot % 16) = met .inv .1 ∙ ap (λ (n : ℕ). anyBelow n (λ k. pairAt base t (slot % 16) k .spoiled)) all in
     ap (withPlaceOf base t (slot % 16) (number % 24))
     (looked .call .ensures
     ∙ ap (λ (d : Bool). callPlan base slot number (a .kind) (a .argument) (liveAt t (slot % 16)) d (pairAt base t (slot % 16) (number % 24)) (objectAt t (number % 24))) is-doomed)
-    ∙ call-placed base t slot number (slot % 16) (number % 24) right-slot right-object (a .kind) (a .argument)
+    ∙ call-placed base t slot number (slot % 16) (number % 24) mod-eq-of-lt mod-eq-of-lt (a .kind) (a .argument)
 
 pub call-spec : {M : Type 1} → statement M
 call-spec =
@@ -78,7 +77,6 @@ call-spec =
     (λ c. search needs)
     (λ c. search needs)
     (λ c κs. search needs)
-    (λ c. search needs)
     (λ c. search needs)
     (λ c. search needs)
     (λ c. search needs)

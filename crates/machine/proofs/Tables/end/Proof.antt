@@ -3,7 +3,7 @@ use Prim.Native.Nat.{ℕ, _-_, _%_}
 use mathlib.Core.List.{List, map}
 use mathlib.Core.Path.{_≡_, sym, _∙_}
 use lib.ListN.{length, length-map}
-use native.Mathlib.Omega.{arith}
+use native.Mathlib.Nat.{le-refl, mod-eq-of-lt}
 use Rattle.counters.specs.Sizes.{base}
 use Rattle.layout.specs.Writing.{written}
 use Rattle.rules.specs.Tables.{withObject}
@@ -24,10 +24,10 @@ abbrev μ-loop : tie.MeasureT-loop
 μ-loop slot tick rollback buf self s from sight₀ at₀ sight at = base .objects - at
 
 abbrev Inv-loop3 : tie.InvT-loop3
-Inv-loop3 tick rollback buf self₀ s from at live short verdict answer reach none o spread r₀ self r = Spoiling base s o spread r (view self₀) (view self)
+Inv-loop3 tick rollback buf self₀ s from at live short verdict answer reach none o own spread r₀ self r = Spoiling base s o spread r (view self₀) (view self)
 
 abbrev μ-loop3 : tie.MeasureT-loop3
-μ-loop3 tick rollback buf self₀ s from at live short verdict answer reach none o spread r₀ self r = spread - r
+μ-loop3 tick rollback buf self₀ s from at live short verdict answer reach none o own spread r₀ self r = spread - r
 
 abbrev Inv-loop2 : tie.InvT-loop2
 Inv-loop2 tick rollback buf self₀ s from at live short verdict answer reach none o₀ self o = Ending base rollback s reach o (view self₀) (view self)
@@ -56,7 +56,7 @@ loop-again c =
     let turn = c .before .before .before in
     let seeing = turn .before .loop in
     let begin = turn .before .before .before .before .before in
-    sees-on base (view (begin .args .t1)) (begin .args .slot .0 % base .slots) (seeing .at) (seeing .sight) (turn .loop-test .taken) (omega arith) (seeing .inv)
+    sees-on base (view (begin .args .t1)) (begin .args .slot .0 % base .slots) (seeing .at) (seeing .sight) (turn .loop-test .taken) (le-refl 24) (seeing .inv)
     (c .look .result) (c .look .ensures)
 
 loop2-holds : tie.Need-loop2-holds Inv-loop μ-loop Inv-loop3 μ-loop3 Inv-loop2 μ-loop2
@@ -113,7 +113,7 @@ returns c =
     let seeing = seen .before .loop in
     let begin = beginning reach in
     let slot = begin .args .slot .0 in
-    end-step base (begin .args .rollback) (view (begin .args .t1)) slot (slot % base .slots) (begin .args .tick) (begin .args .buf .now) (λ in-range. omega arith)
+    end-step base (begin .args .rollback) (view (begin .args .t1)) slot (slot % base .slots) (begin .args .tick) (begin .args .buf .now) mod-eq-of-lt
     (seeing .sight) (seeing .at) (seen .loop-test .left) (seeing .inv)
     (verdict .verdict .result) (verdict .verdict .ensures)
     (reach .reach .result) (ending .o) (view (ending .self)) (reach .reach .ensures)
@@ -172,10 +172,7 @@ end-spec =
     (λ c. search needs)
     (λ c. search needs)
     (λ c. search needs)
-    (λ c. search needs)
-    (λ c. search needs)
     loop3-again
-    (λ c. search needs)
     (λ c. search needs)
     (λ c. search needs)
     (λ c. search needs)

@@ -1,7 +1,7 @@
 -- `machine::Tables::release` meets its promise.
-use mathlib.Core.Path.{_≡_, ap, _∙_}
-use Prim.Native.Nat.{_<_, _%_}
-use native.Mathlib.Omega.{arith}
+use mathlib.Core.Path.{ap, _∙_}
+use Prim.Native.Nat.{_%_}
+use native.Mathlib.Nat.{mod-eq-of-lt}
 use Rattle.counters.specs.Sizes.{base}
 use Rattle.plans.proofs.Placed.{withObjectOf, release-placed}
 use Rattle.machine.specs.Views.{view}
@@ -15,10 +15,8 @@ returns c =
     let a = looked .before .before .before .before .before .before .args in
     let slot = a .slot .0 in
     let number = a .number .0 in
-    let right-slot : slot < base .slots → slot % 16 ≡ slot = λ h. omega arith in
-    let right-object : number < base .objects → number % 24 ≡ number = λ h. omega arith in
     ap (withObjectOf (view (a .t1)) (number % 24)) (looked .release .ensures)
-    ∙ release-placed base (view (a .t1)) slot number (slot % 16) (number % 24) right-slot right-object
+    ∙ release-placed base (view (a .t1)) slot number (slot % 16) (number % 24) mod-eq-of-lt mod-eq-of-lt
 
 pub release-spec : {M : Type 1} → statement M
 release-spec =

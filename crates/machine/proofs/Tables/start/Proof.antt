@@ -1,7 +1,7 @@
 -- `machine::Tables::start` meets its promise.
 use borrow.Author.Needs.{needs}
 use Prim.Native.Nat.{_-_, _%_}
-use native.Mathlib.Omega.{arith}
+use native.Mathlib.Nat.{mod-eq-of-lt}
 use lib.ListN.{getD}
 use Rattle.counters.specs.Sizes.{base}
 use Rattle.machine.specs.Views.{view}
@@ -27,7 +27,7 @@ loop-holds c =
     let verdict = reach .before in
     let begin = verdict .before .before .before .before in
     let slot = begin .args .slot .0 in
-    clears-first base (view (begin .args .t1)) slot (slot % base .slots) (begin .args .list .now) (λ in-range. omega arith)
+    clears-first base (view (begin .args .t1)) slot (slot % base .slots) (begin .args .list .now) mod-eq-of-lt
     (verdict .verdict .result) (verdict .verdict .ensures)
     (reach .reach .result) (reach .reach .ensures)
 
@@ -46,7 +46,7 @@ loop2-holds c =
     let verdict = end .before .before in
     let begin = verdict .before .before .before .before in
     let slot = begin .args .slot .0 in
-    declares-first base (view (begin .args .t1)) slot (slot % base .slots) (begin .args .list .now) (λ in-range. omega arith)
+    declares-first base (view (begin .args .t1)) slot (slot % base .slots) (begin .args .list .now) mod-eq-of-lt
     (verdict .verdict .result) (verdict .verdict .ensures)
     (end .reach2 .result) (view (c .before .loop .self)) (end .reach2 .ensures)
 
@@ -61,7 +61,7 @@ loop2-again c =
     let list = begin .args .list .now in
     declares-on base (begin .args .slot .0 % base .slots) list (end .reach2 .result) (declaring .next) (view (cleared .loop .self)) (view (declaring .self))
     (getD list (declaring .next) 0 % base .objects) (given .give-out .result) (c .declare .result)
-    (turn .loop2-test .taken) (λ in-range. omega arith) (given .give-out .ensures) (c .declare .ensures) (declaring .inv)
+    (turn .loop2-test .taken) mod-eq-of-lt (given .give-out .ensures) (c .declare .ensures) (declaring .inv)
 
 returns : tie.Need-returns Inv-loop μ-loop Inv-loop2 μ-loop2
 returns c =
@@ -76,7 +76,7 @@ returns c =
     let verdict = reach .before in
     let begin = verdict .before .before .before .before in
     let slot = begin .args .slot .0 in
-    started base (view (begin .args .t1)) slot (slot % base .slots) (begin .args .list .now) (λ in-range. omega arith)
+    started base (view (begin .args .t1)) slot (slot % base .slots) (begin .args .list .now) mod-eq-of-lt
     (verdict .verdict .result) (verdict .verdict .ensures)
     (reach .reach .result) (clearing .at) (end .reach2 .result) (declaring .next) (view (clearing .self)) (view (declaring .self))
     (passes .passes .result) (either .either .result) (c .answer .result)
