@@ -33,9 +33,7 @@ impl Tables {
         let mut sight = Sight::none();
         let mut at: usize = 0;
         while at < 24 {
-            let pair = self.pairs[from + at];
-            let object = self.objects[at];
-            sight = sight.look(at as u8, pair, object);
+            sight = sight.look(at as u8, self.pairs[from + at], self.objects[at]);
             at = at + 1;
         }
         let live = self.live[s];
@@ -48,16 +46,13 @@ impl Tables {
         while o < reach {
             let own = from + o;
             let pair = self.pairs[own];
-            let object = self.objects[o];
-            self.objects[o] = ends::object(rollback, pair, object);
+            self.objects[o] = ends::object(rollback, pair, self.objects[o]);
             // Every other live slot that has called a restored object becomes spoiled on it.
             let spread = ends::spread(rollback, pair);
             let mut r: usize = 0;
             while r < spread {
                 let place = r * 24 + o;
-                let other = self.pairs[place];
-                let alive = self.live[r];
-                self.pairs[place] = ends::spoil(s, r, alive, other);
+                self.pairs[place] = ends::spoil(s, r, self.live[r], self.pairs[place]);
                 r = r + 1;
             }
             self.pairs[own] = none;

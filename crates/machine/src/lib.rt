@@ -69,15 +69,21 @@ impl Tables {
         let mut doomed = false;
         let mut at: usize = 0;
         while at < 24 {
-            let pair = self.pairs[from + at];
-            doomed = verdicts::either(doomed, pair.spoiled);
+            doomed = verdicts::either(doomed, self.pairs[from + at].spoiled);
             at = at + 1;
         }
         let place = from + o;
         let pair = self.pairs[place];
-        let object = self.objects[o];
-        let live = self.live[s];
-        let plan = plans::call(slot, number, kind, argument, live, doomed, pair, object);
+        let plan = plans::call(
+            slot,
+            number,
+            kind,
+            argument,
+            self.live[s],
+            doomed,
+            pair,
+            self.objects[o],
+        );
         let next = plan.object;
         let next_pair = plan.pair;
         let answer = plan.answer;
@@ -95,10 +101,13 @@ impl Tables {
     {
         let s = (slot.0 % SLOTS) as usize;
         let o = (number.0 % OBJECTS) as usize;
-        let pair = self.pairs[s * 24 + o];
-        let object = self.objects[o];
-        let live = self.live[s];
-        let plan = plans::release(slot, number, live, pair, object);
+        let plan = plans::release(
+            slot,
+            number,
+            self.live[s],
+            self.pairs[s * 24 + o],
+            self.objects[o],
+        );
         let next = plan.object;
         let answer = plan.answer;
         self.objects[o] = next;

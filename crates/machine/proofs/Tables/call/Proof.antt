@@ -28,7 +28,7 @@ loop-holds c = (search needs, sym (any-zero _))
 
 loop-again : tie.Need-loop-again Inv-loop μ-loop
 loop-again c =
-    let turn = c .before .before .before in
+    let turn = c .before .before in
     let a = turn .before .before .before .args in
     let spoiled : ℕ → Bool = λ k. pairAt base (view (a .t1)) (a .slot .0 % 16) k .spoiled in (
       search needs,

@@ -74,7 +74,7 @@ loop3-holds c =
     let reach = turn .before .before .before in
     let begin = beginning reach in
     spoils-first base (begin .args .rollback) (begin .args .slot .0 % base .slots) (reach .reach .result) (ending .o) (c .spread .result)
-    (view (begin .args .t1)) (view (ending .self)) (c .before .object3 .result) (ending .inv) (c .spread .ensures)
+    (view (begin .args .t1)) (view (ending .self)) (c .before .object .result) (ending .inv) (c .spread .ensures)
 
 loop3-again : tie.Need-loop3-again Inv-loop μ-loop Inv-loop3 μ-loop3 Inv-loop2 μ-loop2
 loop3-again c =
@@ -85,7 +85,7 @@ loop3-again c =
     let ending = turn .before .loop2 in
     let begin = beginning (turn .before .before .before) in
     spoils-on base (begin .args .slot .0 % base .slots) (ending .o) (spread .spread .result) (spoiling .r)
-    (withObject (view (ending .self)) (ending .o) (spread .before .object3 .result)) (view (spoiling .self)) (c .spoil .result)
+    (withObject (view (ending .self)) (ending .o) (spread .before .object .result)) (view (spoiling .self)) (c .spoil .result)
     (asked .loop3-test .taken) (c .spoil .ensures) (spoiling .inv)
 
 loop2-again : tie.Need-loop2-again Inv-loop μ-loop Inv-loop3 μ-loop3 Inv-loop2 μ-loop2
@@ -98,8 +98,8 @@ loop2-again c =
     let reach = none .before in
     let begin = beginning reach in
     ends-on base (begin .args .rollback) (begin .args .slot .0 % base .slots) (reach .reach .result) (ending .o) (spread .spread .result) (spoiling .r)
-    (view (begin .args .t1)) (view (ending .self)) (view (spoiling .self)) (spread .before .object3 .result) (none .none2 .result)
-    (turn .loop2-test .taken) (ending .inv) (spread .before .object3 .ensures) (spread .spread .ensures) (c .loop3-test .left) (spoiling .inv)
+    (view (begin .args .t1)) (view (ending .self)) (view (spoiling .self)) (spread .before .object .result) (none .none2 .result)
+    (turn .loop2-test .taken) (ending .inv) (spread .before .object .ensures) (spread .spread .ensures) (c .loop3-test .left) (spoiling .inv)
     (none .none2 .ensures)
 
 returns : tie.Need-returns Inv-loop μ-loop Inv-loop3 μ-loop3 Inv-loop2 μ-loop2
