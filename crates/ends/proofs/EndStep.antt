@@ -33,7 +33,7 @@ use Rattle.verdicts.specs.declared.Verdict.{Verdict}
 use Rattle.verdicts.specs.declared.Verdict.the-variants.{Passes, Refuses}
 use Rattle.verdicts.proofs.Saying.{when-passes, when-refuses}
 use Rattle.ends.proofs.EndLoops.{Seeing, entriesTo}
-use Rattle.ends.proofs.Clearing.{endCleared, cleared-behind}
+use Rattle.ends.proofs.EndClears.{endCleared, cleared-behind}
 use Rattle.ends.proofs.EndTurns.{Ending}
 
 -- the rules, as the step has them

@@ -17,7 +17,7 @@ use Rattle.rules.proofs.Stores.{Sized, sized-object, sized-pair, object-kept}
 use Rattle.rules.proofs.Walking.{each-zero, each-next}
 use Rattle.rules.proofs.Restored.{restore-keeps, restore-object}
 use Rattle.ends.specs.Ends.{endedObject, spreadOf}
-use Rattle.ends.proofs.Clearing.{endCleared}
+use Rattle.ends.proofs.EndClears.{endCleared}
 use Rattle.ends.proofs.EndLoops.{Spoiling, spoils-beside}
 
 first-of-both : (a b : Bool) → (a && b) ≡ true → a ≡ true

@@ -1,5 +1,5 @@
 pub mod Entering
 pub mod EndLoops
-pub mod Clearing
+pub mod EndClears
 pub mod EndTurns
 pub mod EndStep

@@ -1,13 +1,11 @@
--- The rules that a call and a release share: whether there is such a pair, and whether it is its turn.
+-- The rules that a call and a release begin with: whether there is such a pair.
 use Prim.Native.Nat.{ℕ}
 use mathlib.Core.Bool.{Bool, not}
 use mathlib.Core.List.{List, [], _∷_}
 use lib.Dec.{leb}
 use Rattle.answers.specs.Order.{Rule, _when_}
-use Rattle.answers.specs.declared.Refusal.the-variants.{BadSlot, BadObject, Idle, NotDeclared, Released, Wait}
+use Rattle.answers.specs.declared.Refusal.the-variants.{BadSlot, BadObject, Idle, NotDeclared}
 use Rattle.counters.specs.Sizes.{Size}
-use Rattle.objects.specs.Places.{turnOf, saysReleased, saysWait}
-use Rattle.objects.specs.declared.Object.{Object}
 use Rattle.objects.specs.declared.Pair.{Pair}
 
 abbrev pub placeRules : Size → ℕ → ℕ → Bool → Pair → List Rule
@@ -17,6 +15,3 @@ placeRules z slot number live pair =
     ∷ BadObject when leb (z .objects) number
     ∷ NotDeclared when not (pair .declared)
     ∷ []
-
-abbrev pub turnRules : Size → Pair → Object → List Rule
-turnRules z pair object = Released when saysReleased (turnOf (z .slots) pair object) ∷ Wait when saysWait (turnOf (z .slots) pair object) ∷ []

@@ -3,8 +3,8 @@ ghost use mathlib.Core.Bool.{_||_};
 ghost use mathlib.Core.Path.{_≡_};
 ghost use Rattle.answers.specs.Order.{decide};
 ghost use Rattle.counters.specs.Sizes.{base};
-ghost use Rattle.rules.specs.Refusing.{callRules, releaseRules};
-ghost use Rattle.verdicts.specs.SharedRules.{placeRules, turnRules};
+ghost use Rattle.rules.specs.Refusing.{callRules, releaseRules, turnRules};
+ghost use Rattle.verdicts.specs.SharedRules.{placeRules};
 ghost use Rattle.verdicts.specs.Verdicts.{answerOf, reachOf, passesOf};
 ghost use Rattle.verdicts.specs.declared.Verdict.the-variants.{Passes, Refuses};
 

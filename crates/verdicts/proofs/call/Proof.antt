@@ -6,7 +6,8 @@ use borrow.Author.Tests.{le-leb, lt-leb}
 use Rattle.answers.specs.Order.{decide, _when_}
 use Rattle.answers.specs.declared.Refusal.the-variants.{BadCall, Doomed}
 use Rattle.counters.specs.Sizes.{base}
-use Rattle.verdicts.specs.SharedRules.{placeRules, turnRules}
+use Rattle.rules.specs.Refusing.{turnRules}
+use Rattle.verdicts.specs.SharedRules.{placeRules}
 use Rattle.verdicts.specs.declared.Verdict.the-variants.{Passes, Refuses}
 use Rattle.verdicts.proofs.Saying.{when-passes, when-refuses}
 use borrow.Author.Needs.{needs}

@@ -2,7 +2,8 @@
 use mathlib.Core.Path.{sym, _∙_}
 use Rattle.answers.specs.Order.{decide}
 use Rattle.counters.specs.Sizes.{base}
-use Rattle.verdicts.specs.SharedRules.{placeRules, turnRules}
+use Rattle.rules.specs.Refusing.{turnRules}
+use Rattle.verdicts.specs.SharedRules.{placeRules}
 use Rattle.verdicts.specs.declared.Verdict.the-variants.{Passes, Refuses}
 use Rattle.verdicts.proofs.Saying.{when-passes, when-refuses}
 use borrow.Author.Needs.{needs}

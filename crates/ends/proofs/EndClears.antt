@@ -16,14 +16,11 @@ use Rattle.rules.specs.Effects.{spoilOne, spoilOthers, restoreOne, endOne, endT
 use Rattle.rules.proofs.Picking.{pick-seen}
 use Rattle.rules.proofs.Restored.{hasCalled}
 use Rattle.rules.proofs.Stores.{place-apart, pair-elsewhere}
+use Rattle.verdicts.proofs.StartLoops.{clearedTo}
 
 -- the turn of an object, and the slot's pair on it zero
 abbrev pub endCleared : Size → Bool → ℕ → ℕ → State → State
 endCleared z rollback s o t = withPair z (endTurn z rollback s o t) s o noPair
-
--- the tables with the first entries of a slot zero
-abbrev clearedTo : Size → ℕ → ℕ → State → State
-clearedTo z s k t = eachBelow k (λ o u. withPair z u s o noPair) t
 
 module _ (z : Size) (s k o : ℕ) (below : k < z .objects) (inside : o < z .objects) (apart : k ≢ o) where
   read-beside : (r : ℕ) (t : State) → pairAt z (withPair z t s k noPair) r o ≡ pairAt z t r o
