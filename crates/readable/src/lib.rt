@@ -6,7 +6,7 @@ ghost use Rattle.layout.specs.Writing.{readable};
 use counters::OBJECTS;
 use counters::SLOTS;
 use counters::SlotNo;
-use layout::entries::rise;
+use entries::rise;
 use layout::fields::Fields;
 use layout::fields::shape_of;
 use layout::kind::BODY_LIMIT;
