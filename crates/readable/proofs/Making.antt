@@ -3,7 +3,6 @@ use Prim.Native.Nat.{ℕ, _+_, _*_, _≤_, _<_}
 use mathlib.Core.Bool.{false}
 use mathlib.Core.List.{List}
 use mathlib.Core.Path.{_≡_, _∙_}
-use native.Mathlib.Nat.{mul-le-mul}
 use native.Mathlib.Omega.{arith}
 use lib.ListN.{length}
 use borrow.Author.Tests.{le-leb, lt-leb, eq-eqb, ne-eqb}
@@ -41,8 +40,3 @@ few-items (Fields.Commit slot tick) bytes h = omega arith
 few-items (Fields.Rollback slot tick) bytes h = omega arith
 few-items (Fields.Committed tick slot) bytes h = omega arith
 few-items (Fields.RolledBack tick slot) bytes h = omega arith
-
-pub small-product : (a b : ℕ) → a < 256 → b ≤ 126 → a * b < 65536
-small-product a b ha hb =
-    let la : a ≤ 255 = omega arith in
-    omega (arith, mul-le-mul la hb)

@@ -1,7 +1,7 @@
 -- `bodies::body_length` meets its promise.
 use Prim.Native.Nat.{_<_}
 use native.Mathlib.Omega.{arith}
-use Rattle.bodies.proofs.Products.{bytes-product}
+use Rattle.layout.proofs.Products.{bytes-product}
 use borrow.Author.Needs.{needs}
 use Rattle.bodies.proofs.body_length.Statement.{statement}
 use Rattle.bodies.proofs.body_length.Tie as tie

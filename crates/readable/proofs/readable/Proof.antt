@@ -6,7 +6,8 @@ use lib.ListN.{length}
 use Rattle.layout.specs.Kinds.{shapeOf}
 use Rattle.layout.specs.Fields.{kindOfFields}
 use Rattle.layout.specs.declared.kind.Shape.{Shape}
-use Rattle.readable.proofs.Making.{too-long, wrong-length, by-content, few-items, small-product}
+use Rattle.layout.proofs.Products.{bytes-product}
+use Rattle.readable.proofs.Making.{too-long, wrong-length, by-content, few-items}
 use borrow.Author.Needs.{needs}
 use Rattle.readable.proofs.readable.Statement.{statement}
 use Rattle.readable.proofs.readable.Tie as tie
@@ -28,7 +29,8 @@ mul-if3 c =
     let start = c .before .before .before .before .before .before .before .args in
     let small : shape .item < 256 = search needs in
     let few : c .items .result ≤ 126 = rw (c .items .ensures) (few-items (start .fields) (length (start .list .now)) (search needs)) in
-    omega (arith, small-product (shape .item) (c .items .result) small few)
+    let byte : c .items .result < 256 = omega (arith, few) in
+    omega (arith, bytes-product (shape .item) (c .items .result) small byte)
 
 returns-3 : tie.Need-returns-3
 returns-3 c =
