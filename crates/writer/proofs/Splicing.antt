@@ -4,8 +4,8 @@ use mathlib.Core.List.{List, [], _++_, append-assoc, append-nil}
 use mathlib.Core.Path.{_≡_, sym, ap, _∙_}
 use native.Mathlib.Omega.{arith}
 use lib.ListN.{length, take, drop, replicate, length-append, length-drop, drop-of-length-le}
-use native.Mathlib.Nat.{le-refl, zero-add}
-use lib.Seq.{take-at, take-all, take-length, drop-drop, drop-append-add}
+use native.Mathlib.Nat.{le-refl}
+use lib.Seq.{length-take-le, take-at, take-all, take-length, drop-drop, drop-append-add}
 use Rattle.layout.specs.Kinds.{shapeOf}
 use Rattle.layout.specs.Fields.{kindOfFields, frontOf, recordOf}
 use Rattle.layout.specs.declared.fields.Fields.{Fields}
@@ -23,9 +23,12 @@ part-filled b src at h =
     let none : drop (at + (length b - at)) b ≡ [] = drop-of-length-le b past in
     simp (take-length, whole, drop-drop, none, append-nil)
 
--- bytes put at the first place
-pub put-first : (x b : List ℕ) → take 0 b ++ (x ++ drop (0 + length x) b) ≡ x ++ drop (length x) b
-put-first x b = rw zero-add
+-- and it has room for what fits behind that place
+pub part-room : (b : List ℕ) (at n : ℕ) → at + n ≤ length b → n ≤ length (take (length b - at) (drop at b))
+part-room b at n h =
+    let long : length (take (length b - at) (drop at b)) ≡ length b - at =
+    length-take-le (length b - at) (drop at b) (simp length-drop (le-refl (length b - at))) in
+    omega (arith, long, h)
 
 -- the next bytes behind a front
 pub put-behind : (front x b : List ℕ) (at : ℕ) → length front ≡ at → at + length x ≤ length b
@@ -45,12 +48,14 @@ front-taken f bytes at made place is-made =
 
 -- a list put behind the front of its record
 pub front-and-list : (f : Fields) (list made b begun written : List ℕ) (at : ℕ) → at ≡ 4 + shapeOf (kindOfFields f) .head
-    → made ≡ filled 12 (frontOf f (length list)) → begun ≡ take 0 b ++ (take at made ++ drop (0 + length (take at made)) b)
+    → made ≡ filled 12 (frontOf f (length list)) → begun ≡ take (length (take at made)) (take at made) ++ drop (length (take at made)) b
     → written ≡ take at begun ++ (list ++ drop (at + length list) begun)
     → length (recordOf f list) ≤ length b → written ≡ recordOf f list ++ drop (length (recordOf f list)) b
 front-and-list f list made b begun written at place is-made first second room =
     let fronted : begun ≡ frontOf f (length list) ++ drop (length (frontOf f (length list))) b =
-    first ∙ put-first (take at made) b ∙ ap (λ (x : List ℕ). x ++ drop (length x) b) (front-taken f (length list) at made place is-made) in
+    first
+    ∙ ap (λ (x : List ℕ). x ++ drop (length (take at made)) b) (take-length (take at made))
+    ∙ ap (λ (x : List ℕ). x ++ drop (length x) b) (front-taken f (length list) at made place is-made) in
     let there : length (frontOf f (length list)) ≡ at = length-front f (length list) ∙ sym place in
     let long : length (recordOf f list) ≡ at + length list = length-append (frontOf f (length list)) list ∙ rw there in
     second

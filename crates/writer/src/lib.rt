@@ -6,9 +6,6 @@ ghost use lib.ListN.{length, drop};
 ghost use Rattle.counters.specs.Sizes.{base};
 ghost use Rattle.layout.specs.Fields.{recordOf};
 ghost use Rattle.layout.specs.Writing.{written, writing, placing};
-
-mod splice;
-
 use answers::Answer;
 use answers::Refusal;
 use layout::fields::Fields;
@@ -50,6 +47,6 @@ fn put(fields: Fields, list: &[u8], buf: &mut [u8])
 {
     let front = front::front(fields, list.len() as u8);
     let length = 4 + shape_of(fields).head as usize;
-    splice::put(&front[..length], buf, 0);
-    splice::put(list, buf, length);
+    bytes::copy(&front[..length], buf);
+    bytes::copy(list, &mut buf[length..]);
 }

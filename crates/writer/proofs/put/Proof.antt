@@ -1,14 +1,15 @@
 -- `writer::put` meets its promise.
-use Prim.Native.Nat.{_+_, _≤_}
+use Prim.Native.Nat.{ℕ, _+_, _-_, _≤_}
+use mathlib.Core.List.{List, _++_}
 use mathlib.Core.Path.{_≡_, sym, ap, _∙_}
 use native.Mathlib.Omega.{arith}
-use lib.ListN.{length, take}
+use lib.ListN.{length, take, drop}
 use lib.Seq.{length-take-le}
 use Rattle.layout.specs.Kinds.{shapeOf}
 use Rattle.layout.specs.Fields.{kindOfFields}
 use Rattle.layout.specs.declared.kind.Shape.{Shape}
 use Rattle.layout.proofs.Lengths.{length-record}
-use Rattle.writer.proofs.Splicing.{front-and-list, small-front}
+use Rattle.writer.proofs.Splicing.{part-filled, part-room, front-and-list, small-front}
 use borrow.Author.Needs.{needs}
 use Rattle.writer.proofs.put.Statement.{statement}
 use Rattle.writer.proofs.put.Tie as tie
@@ -22,22 +23,33 @@ fits c =
     let room : length (c .before .front .result) ≡ 12 = search needs in
     omega (arith, room, place c, small-front (c .before .before .before .before .args .fields))
 
-fronts-length : (c : tie.After-shape-of) → length (take (4 + c .shape-of .result .head) (c .before .front .result)) ≡ 4 + c .shape-of .result .head
-fronts-length c = length-take-le (4 + c .shape-of .result .head) (c .before .front .result) (fits c)
+front-length : (c : tie.After-shape-of) → length (take (4 + c .shape-of .result .head) (c .before .front .result)) ≡ 4 + c .shape-of .result .head
+front-length c = length-take-le (4 + c .shape-of .result .head) (c .before .front .result) (fits c)
 
-put-requires : tie.Need-put-requires
-put-requires c κs =
+copy-requires : tie.Need-copy-requires
+copy-requires c κs =
     let shape = c .before .before .before in
     let start = shape .before .before .before .before in
-    omega (arith, start .pre .1, fronts-length shape, place shape, length-record (start .args .fields) (start .args .list .now))
+    omega (arith, start .pre .1, front-length shape, place shape, length-record (start .args .fields) (start .args .list .now))
 
-put-requires-2 : tie.Need-put-requires-2
-put-requires-2 c κs =
+-- behind the front there is room for the list
+room : (c : tie.After-copy)
+    → (4 + c .before .before .before .before .shape-of .result .head) + length (c .before .before .before .before .before .before .before .before .args .list .now)
+    ≤ length (c .copy .last .1 .0)
+room c =
+    let shape = c .before .before .before .before in
+    let start = shape .before .before .before .before in
+    let kept : length (c .copy .last .1 .0) ≡ length (start .args .buf .now) = c .copy .kept .1 .0 in
+    omega (arith, kept, start .pre .1, place shape, length-record (start .args .fields) (start .args .list .now))
+
+there : (c : tie.After-copy) → 4 + c .before .before .before .before .shape-of .result .head ≤ length (c .copy .last .1 .0)
+there c = omega (arith, room c)
+
+copy-requires-2 : tie.Need-copy-requires-2
+copy-requires-2 c κs =
     let first = c .before .before .before in
     let shape = first .before .before .before .before in
-    let start = shape .before .before .before .before in
-    let kept : length (first .put .last .1 .0) ≡ length (start .args .buf .now) = first .put .kept .1 .0 in
-    omega (arith, kept, start .pre .1, place shape, length-record (start .args .fields) (start .args .list .now))
+    part-room (first .copy .last .1 .0) (4 + shape .shape-of .result .head) (length (shape .before .before .before .before .args .list .now)) (room first)
 
 returns : tie.Need-returns
 returns c =
@@ -45,9 +57,13 @@ returns c =
     let first = second .before .before .before .before in
     let shape = first .before .before .before .before in
     let start = shape .before .before .before .before in
-    front-and-list (start .args .fields) (start .args .list .now) (shape .before .front .result) (start .args .buf .now)
-    (first .put .last .1 .0) (second .put2 .last .1 .0) (4 + shape .shape-of .result .head)
-    (place shape) (shape .before .front .ensures) (first .put .ensures) (second .put2 .ensures) (start .pre .1)
+    let at = 4 + shape .shape-of .result .head in
+    let begun = first .copy .last .1 .0 in
+    front-and-list (start .args .fields) (start .args .list .now) (shape .before .front .result) (start .args .buf .now) begun _ at
+    (place shape) (shape .before .front .ensures) (first .copy .ensures .1)
+    (ap (λ (filled : List ℕ). take at begun ++ (filled ++ drop (length begun - at) (drop at begun))) (second .copy2 .ensures .1)
+    ∙ part-filled begun (start .args .list .now) at (room first))
+    (start .pre .1)
 
 pub put-spec : {M : Type 1} → statement M
 put-spec =
@@ -59,8 +75,11 @@ put-spec =
     (λ c. search needs)
     (λ c. search needs)
     (λ c. fits (c .before))
-    (λ c. sym (fronts-length (c .before .before)))
-    put-requires
-    put-requires-2
+    (λ c. sym (front-length (c .before .before)))
+    copy-requires
+    (λ c. there (c .before .before))
+    (λ c. there (c .before .before))
+    (λ c. search needs)
+    copy-requires-2
     (λ c. search needs)
     returns)
