@@ -8,3 +8,4 @@ pub mod ReadBack
 pub mod WriteBack
 pub mod Writes
 pub mod Placing
+pub mod Products

@@ -1,5 +1,3 @@
-// The layout of the records: their kinds, their fields, and what reader and writer share to look at bytes.
-pub mod entries;
+// The layout of the records: their kinds and their fields.
 pub mod fields;
 pub mod kind;
-pub mod part;

@@ -71,8 +71,8 @@ fn meeting(a: &[u8], b: &[u8]) -> CameFirst
         let mut at_b: usize = 0;
         while 4 < b.len() - at_b {
             if a[at_a] == b[at_b] {
-                let version_a = Version(layout::part::word_at(a, at_a + 1));
-                let version_b = Version(layout::part::word_at(b, at_b + 1));
+                let version_a = Version(parts::word_at(a, at_a + 1));
+                let version_b = Version(parts::word_at(b, at_b + 1));
                 found = CameFirst::Compared(version_a.compare(version_b));
                 break 'outer;
             }

@@ -1,4 +1,2 @@
-pub mod Frames
-pub mod Products
 pub mod Readings
 pub mod Refusing

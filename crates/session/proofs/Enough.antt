@@ -10,7 +10,7 @@ use Rattle.counters.specs.Sizes.{Size, base}
 use Rattle.layout.specs.Reading.{framing, reading}
 use Rattle.layout.specs.declared.fields.Framing.{Framing}
 use Rattle.layout.specs.declared.fields.Framing
-use Rattle.reader.proofs.Frames.{not-whole}
+use Rattle.frames.proofs.Frames.{not-whole}
 use Rattle.rules.specs.Tables.{State}
 use Rattle.session.specs.Records.{Answering, framedBytes, recordBytes, sortAt, stopsAt, firstSort, firstStep, benchStep}
 use Rattle.session.specs.declared.records.Sort.{Sort}

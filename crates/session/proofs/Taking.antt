@@ -8,7 +8,7 @@ use Rattle.counters.specs.Sizes.{Size}
 use Rattle.layout.specs.Reading.{framing, reading}
 use Rattle.layout.specs.declared.fields.Framing.{Framing}
 use Rattle.layout.specs.declared.fields.Framing
-use Rattle.reader.proofs.Frames.{whole}
+use Rattle.frames.proofs.Frames.{whole}
 use Rattle.session.specs.Records.{framedBytes, recordBytes, sortAt, firstSort, firstStep}
 use Rattle.session.specs.declared.records.Sort.{Sort}
 use Rattle.session.specs.declared.records.Sort

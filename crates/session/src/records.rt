@@ -8,14 +8,14 @@ use counters::Version;
 use layout::fields::Fields;
 use layout::fields::Framing;
 use layout::fields::Reading;
-use layout::part::half;
-use layout::part::word_at;
+use parts::half;
+use parts::word_at;
 
 // The frame and the body; nothing where the frame fails.
 pub fn taken(bytes: &[u8]) -> usize
     ensures { λ r. ⌜ r ≡ recordBytes base (now (bytes .entry)) ⌝ }
 {
-    let Framing::Whole(_) = reader::frame(bytes) else {
+    let Framing::Whole(_) = frames::frame(bytes) else {
         return 0;
     };
     4 + half(bytes) as usize

@@ -4,8 +4,8 @@ use crate::ordering::order;
 use crate::reading::read;
 use crate::writing::write;
 use bytes::scan::find;
-use layout::part::behind;
-use layout::part::byte;
+use parts::behind;
+use parts::byte;
 
 // A page has at most 1000 lines.
 pub fn vectors(page: &[u8]) {

@@ -17,7 +17,7 @@ pub fn read(name: &[u8], bytes: &[u8]) {
 }
 
 fn answers(s: &[u8]) {
-    frame(reader::frame(s));
+    frame(frames::frame(s));
     reading(reader::read(s));
     parts(s);
 }
@@ -38,7 +38,7 @@ fn reading(reading: Reading) {
 
 // The body and the list, which are parts of s.
 fn parts(s: &[u8]) {
-    part(b", body", reader::body(s));
+    part(b", body", frames::body(s));
     part(b", list", reader::list(s));
     text(b"\n");
 }

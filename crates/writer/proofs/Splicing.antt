@@ -3,14 +3,15 @@ use Prim.Native.Nat.{ℕ, _+_, _-_, _≤_}
 use mathlib.Core.List.{List, [], _++_, append-assoc, append-nil}
 use mathlib.Core.Path.{_≡_, sym, ap, _∙_}
 use native.Mathlib.Omega.{arith}
-use lib.ListN.{length, take, drop, length-append, length-drop, drop-of-length-le}
-use native.Mathlib.Nat.{le-refl, zero-add}
-use lib.Seq.{take-at, take-all, take-length, drop-drop, drop-append-add}
-use Rattle.layout.specs.Bytes.{halfBytes}
+use lib.ListN.{length, take, drop, replicate, length-append, length-drop, drop-of-length-le}
+use native.Mathlib.Nat.{le-refl}
+use lib.Seq.{length-take-le, take-at, take-all, take-length, drop-drop, drop-append-add}
 use Rattle.layout.specs.Kinds.{shapeOf}
-use Rattle.layout.specs.Fields.{kindOfFields, headOf, frontOf, recordOf}
+use Rattle.layout.specs.Fields.{kindOfFields, frontOf, recordOf}
 use Rattle.layout.specs.declared.fields.Fields.{Fields}
-use Rattle.layout.proofs.Lengths.{length-head, length-front}
+use Rattle.layout.specs.declared.fields.Fields
+use Rattle.layout.proofs.Lengths.{length-front}
+use Rattle.front.specs.Filled.{filled}
 
 -- a part of a buffer that a copy has filled from its first byte, back in its place
 pub part-filled : (b src : List ℕ) (at : ℕ) → at + length src ≤ length b
@@ -22,9 +23,12 @@ part-filled b src at h =
     let none : drop (at + (length b - at)) b ≡ [] = drop-of-length-le b past in
     simp (take-length, whole, drop-drop, none, append-nil)
 
--- bytes put at the first place
-pub put-first : (x b : List ℕ) → take 0 b ++ (x ++ drop (0 + length x) b) ≡ x ++ drop (length x) b
-put-first x b = rw zero-add
+-- and it has room for what fits behind that place
+pub part-room : (b : List ℕ) (at n : ℕ) → at + n ≤ length b → n ≤ length (take (length b - at) (drop at b))
+part-room b at n h =
+    let long : length (take (length b - at) (drop at b)) ≡ length b - at =
+    length-take-le (length b - at) (drop at b) (simp length-drop (le-refl (length b - at))) in
+    omega (arith, long, h)
 
 -- the next bytes behind a front
 pub put-behind : (front x b : List ℕ) (at : ℕ) → length front ≡ at → at + length x ≤ length b
@@ -35,30 +39,37 @@ put-behind front x b at e h =
     rw (← e) (drop-append-add front (drop (length front) b) (length x) ∙ drop-drop (length x) (length front) b) in
     rw (kept, behind) (sym (append-assoc front x (drop (at + length x) b)))
 
--- a frame put at the first place and a head behind it
-pub frame-and-head : (f : Fields) (bytes : ℕ) (frame head b framed filled : List ℕ)
-    → frame ≡ halfBytes (shapeOf (kindOfFields f) .head + bytes) ++ halfBytes (shapeOf (kindOfFields f) .number) → head ≡ headOf f bytes
-    → framed ≡ take 0 b ++ (frame ++ drop (0 + length frame) b) → filled ≡ take 4 framed ++ (head ++ drop (4 + length head) framed)
-    → length (frontOf f bytes) ≤ length b → filled ≡ frontOf f bytes ++ drop (length (frontOf f bytes)) b
-frame-and-head f bytes frame head b framed filled is-frame is-head first second room =
-    let four : length frame ≡ 4 = ap length is-frame in
-    let long : length (frontOf f bytes) ≡ 4 + length head = length-front f bytes ∙ rw (is-head, length-head f bytes) in
-    let begun : framed ≡ frame ++ drop 4 b = first ∙ put-first frame b ∙ rw four in
-    let front : frame ++ head ≡ frontOf f bytes = rw (is-frame, is-head) in
-    second
-    ∙ ap (λ (x : List ℕ). take 4 x ++ (head ++ drop (4 + length head) x)) begun
-    ∙ put-behind frame head b 4 four (omega arith)
-    ∙ ap (λ (n : ℕ). (frame ++ head) ++ drop n b) (sym long)
-    ∙ ap (λ (x : List ℕ). x ++ drop (length (frontOf f bytes)) b) front
+-- the front of a record, taken from the array that begins with it
+pub front-taken : (f : Fields) (bytes at : ℕ) (made : List ℕ) → at ≡ 4 + shapeOf (kindOfFields f) .head → made ≡ filled 12 (frontOf f bytes)
+    → take at made ≡ frontOf f bytes
+front-taken f bytes at made place is-made =
+    ap (λ (x : List ℕ). take at x) is-made
+    ∙ take-at (frontOf f bytes) (replicate (12 - length (frontOf f bytes)) 0) at (length-front f bytes ∙ sym place)
 
 -- a list put behind the front of its record
-pub front-and-list : (f : Fields) (list b begun filled : List ℕ) (at : ℕ) → at ≡ 4 + shapeOf (kindOfFields f) .head
-    → begun ≡ frontOf f (length list) ++ drop (length (frontOf f (length list))) b → filled ≡ take at begun ++ (list ++ drop (at + length list) begun)
-    → length (recordOf f list) ≤ length b → filled ≡ recordOf f list ++ drop (length (recordOf f list)) b
-front-and-list f list b begun filled at place first second room =
+pub front-and-list : (f : Fields) (list made b begun written : List ℕ) (at : ℕ) → at ≡ 4 + shapeOf (kindOfFields f) .head
+    → made ≡ filled 12 (frontOf f (length list)) → begun ≡ take (length (take at made)) (take at made) ++ drop (length (take at made)) b
+    → written ≡ take at begun ++ (list ++ drop (at + length list) begun)
+    → length (recordOf f list) ≤ length b → written ≡ recordOf f list ++ drop (length (recordOf f list)) b
+front-and-list f list made b begun written at place is-made first second room =
+    let fronted : begun ≡ frontOf f (length list) ++ drop (length (frontOf f (length list))) b =
+    first
+    ∙ ap (λ (x : List ℕ). x ++ drop (length (take at made)) b) (take-length (take at made))
+    ∙ ap (λ (x : List ℕ). x ++ drop (length x) b) (front-taken f (length list) at made place is-made) in
     let there : length (frontOf f (length list)) ≡ at = length-front f (length list) ∙ sym place in
     let long : length (recordOf f list) ≡ at + length list = length-append (frontOf f (length list)) list ∙ rw there in
     second
-    ∙ ap (λ (x : List ℕ). take at x ++ (list ++ drop (at + length list) x)) (first ∙ ap (λ (n : ℕ). frontOf f (length list) ++ drop n b) there)
+    ∙ ap (λ (x : List ℕ). take at x ++ (list ++ drop (at + length list) x)) (fronted ∙ ap (λ (n : ℕ). frontOf f (length list) ++ drop n b) there)
     ∙ put-behind (frontOf f (length list)) list b at there (omega arith)
     ∙ ap (λ (n : ℕ). recordOf f list ++ drop n b) (sym long)
+
+-- an array of twelve bytes holds every front
+pub small-front : (f : Fields) → 4 + shapeOf (kindOfFields f) .head ≤ 12
+small-front (Fields.Fresh first) = omega arith
+small-front (Fields.Start slot) = omega arith
+small-front (Fields.Call slot object kind argument) = omega arith
+small-front (Fields.Release slot object) = omega arith
+small-front (Fields.Commit slot tick) = omega arith
+small-front (Fields.Rollback slot tick) = omega arith
+small-front (Fields.Committed tick slot) = omega arith
+small-front (Fields.RolledBack tick slot) = omega arith

@@ -6,11 +6,6 @@ ghost use lib.ListN.{length, drop};
 ghost use Rattle.counters.specs.Sizes.{base};
 ghost use Rattle.layout.specs.Fields.{recordOf};
 ghost use Rattle.layout.specs.Writing.{written, writing, placing};
-
-mod beside;
-mod front;
-mod splice;
-
 use answers::Answer;
 use answers::Refusal;
 use layout::fields::Fields;
@@ -22,7 +17,7 @@ use layout::kind::BODY_LIMIT;
 pub fn write(fields: Fields, list: &[u8], buf: &mut [u8]) -> Answer
     ensures { λ r. ⌜ written r (now (buf .exit)) ≡ writing base fields (now (list .entry)) (now (buf .entry)) ⌝ }
 {
-    if !beside::readable(fields, list) {
+    if !readable::readable(fields, list) {
         return Answer::Refused(Refusal::BadRecord);
     }
     place(fields, list, buf)
@@ -50,6 +45,8 @@ fn put(fields: Fields, list: &[u8], buf: &mut [u8])
     requires { ⌜ length (recordOf fields (now list)) ≤ length (now buf) ⌝ }
     ensures { λ _. ⌜ now (buf .exit) ≡ recordOf fields (now (list .entry)) ++ drop (length (recordOf fields (now (list .entry)))) (now (buf .entry)) ⌝ }
 {
-    front::put(fields, list.len(), buf);
-    splice::put(list, buf, 4 + shape_of(fields).head as usize);
+    let front = front::front(fields, list.len() as u8);
+    let length = 4 + shape_of(fields).head as usize;
+    bytes::copy(&front[..length], buf);
+    bytes::copy(list, &mut buf[length..]);
 }

@@ -3,7 +3,7 @@ use mathlib.Core.Path.{sym, ap, _∙_}
 use Rattle.counters.specs.Sizes.{base}
 use Rattle.layout.specs.Reading.{readingOf, bodyReading, body}
 use Rattle.layout.specs.declared.kind.KindFound.{KindFound}
-use Rattle.reader.proofs.Frames.{whole, not-whole}
+use Rattle.frames.proofs.Frames.{whole, not-whole}
 use Prim.Native.Nat.{ℕ}
 use mathlib.Core.List.{List}
 use borrow.Author.Needs.{needs}
@@ -33,7 +33,7 @@ returns-3 c =
     let s = framed .before .before .args .s .now in
     let told = numbered .before .before .number .given in
     let is-whole = whole base s (told .0 .0) (sym (framed .frame .ensures) ∙ told .1) in
-    c .read-body .ensures
+    c .read .ensures
     ∙ ap (λ (b : List ℕ). bodyReading base (known .kind .given .0 .0) b) (c .before .body .ensures .bytes)
     ∙ sym (is-whole .reading-is ∙ ap (λ (k : KindFound). readingOf base k (body base s)) (sym (numbered .of-number .ensures) ∙ known .kind .given .1))
 

@@ -1,43 +1,85 @@
 -- `writer::put` meets its promise.
-use Prim.Native.Nat.{_+_}
-use mathlib.Core.Path.{_≡_, ap}
+use Prim.Native.Nat.{ℕ, _+_, _-_, _≤_}
+use mathlib.Core.List.{List, _++_}
+use mathlib.Core.Path.{_≡_, sym, ap, _∙_}
 use native.Mathlib.Omega.{arith}
-use lib.ListN.{length}
+use lib.ListN.{length, take, drop}
+use lib.Seq.{length-take-le}
+use Rattle.layout.specs.Kinds.{shapeOf}
+use Rattle.layout.specs.Fields.{kindOfFields}
 use Rattle.layout.specs.declared.kind.Shape.{Shape}
-use Rattle.layout.proofs.Lengths.{length-front, length-record}
-use Rattle.writer.proofs.Splicing.{front-and-list}
+use Rattle.layout.proofs.Lengths.{length-record}
+use Rattle.writer.proofs.Splicing.{part-filled, part-room, front-and-list, small-front}
 use borrow.Author.Needs.{needs}
 use Rattle.writer.proofs.put.Statement.{statement}
 use Rattle.writer.proofs.put.Tie as tie
 
-put-requires : tie.Need-put-requires
-put-requires c κs =
-    let start = c .before .before .before in
-    let f = start .args .fields in
-    let list = start .args .list .now in
-    (start .pre .0, omega (arith, start .pre .1, length-record f list, length-front f (length list)))
+-- where the list begins
+place : (c : tie.After-shape-of) → 4 + c .shape-of .result .head ≡ 4 + shapeOf (kindOfFields (c .before .before .before .before .args .fields)) .head
+place c = ap (λ (x : Shape). 4 + x .head) (c .shape-of .ensures)
 
-put-requires-2 : tie.Need-put-requires-2
-put-requires-2 c κs =
-    let shape = c .before in
-    let first = shape .before .before .before .before in
-    let start = first .before .before .before .before in
-    let f = start .args .fields in
-    let list = start .args .list .now in
-    let kept : length (first .put .last .1 .1 .0) ≡ length (start .args .buf .now) = first .put .kept .1 .1 .0 in
-    omega (arith, kept, start .pre .1, length-record f list, ap (λ (x : Shape). x .head) (shape .shape-of .ensures))
+fits : (c : tie.After-shape-of) → 4 + c .shape-of .result .head ≤ length (c .before .front .result)
+fits c =
+    let room : length (c .before .front .result) ≡ 12 = search needs in
+    omega (arith, room, place c, small-front (c .before .before .before .before .args .fields))
+
+front-length : (c : tie.After-shape-of) → length (take (4 + c .shape-of .result .head) (c .before .front .result)) ≡ 4 + c .shape-of .result .head
+front-length c = length-take-le (4 + c .shape-of .result .head) (c .before .front .result) (fits c)
+
+copy-requires : tie.Need-copy-requires
+copy-requires c κs =
+    let shape = c .before .before .before in
+    let start = shape .before .before .before .before in
+    omega (arith, start .pre .1, front-length shape, place shape, length-record (start .args .fields) (start .args .list .now))
+
+-- behind the front there is room for the list
+room : (c : tie.After-copy)
+    → (4 + c .before .before .before .before .shape-of .result .head) + length (c .before .before .before .before .before .before .before .before .args .list .now)
+    ≤ length (c .copy .last .1 .0)
+room c =
+    let shape = c .before .before .before .before in
+    let start = shape .before .before .before .before in
+    let kept : length (c .copy .last .1 .0) ≡ length (start .args .buf .now) = c .copy .kept .1 .0 in
+    omega (arith, kept, start .pre .1, place shape, length-record (start .args .fields) (start .args .list .now))
+
+there : (c : tie.After-copy) → 4 + c .before .before .before .before .shape-of .result .head ≤ length (c .copy .last .1 .0)
+there c = omega (arith, room c)
+
+copy-requires-2 : tie.Need-copy-requires-2
+copy-requires-2 c κs =
+    let first = c .before .before .before in
+    let shape = first .before .before .before .before in
+    part-room (first .copy .last .1 .0) (4 + shape .shape-of .result .head) (length (shape .before .before .before .before .args .list .now)) (room first)
 
 returns : tie.Need-returns
 returns c =
     let second = c .before .before in
-    let shape = second .before .before in
-    let first = shape .before .before .before .before in
-    let start = first .before .before .before .before in
-    front-and-list (start .args .fields) (start .args .list .now) (start .args .buf .now) (first .put .last .1 .1 .0) (second .put2 .last .1 .0)
-    (4 + shape .shape-of .result .head)
-    (ap (λ (x : Shape). 4 + x .head) (shape .shape-of .ensures)) (first .put .ensures) (second .put2 .ensures) (start .pre .1)
+    let first = second .before .before .before .before in
+    let shape = first .before .before .before .before in
+    let start = shape .before .before .before .before in
+    let at = 4 + shape .shape-of .result .head in
+    let begun = first .copy .last .1 .0 in
+    front-and-list (start .args .fields) (start .args .list .now) (shape .before .front .result) (start .args .buf .now) begun _ at
+    (place shape) (shape .before .front .ensures) (first .copy .ensures .1)
+    (ap (λ (filled : List ℕ). take at begun ++ (filled ++ drop (length begun - at) (drop at begun))) (second .copy2 .ensures .1)
+    ∙ part-filled begun (start .args .list .now) at (room first))
+    (start .pre .1)
 
 pub put-spec : {M : Type 1} → statement M
 put-spec =
     tie.close
-    (tie.spec put-requires (λ c κs. search needs) (λ c. search needs) (λ c. search needs) put-requires-2 (λ c. search needs) returns)
+    (tie.spec
+    (λ c. search needs)
+    (λ c κs. search needs)
+    (λ c κs. search needs)
+    (λ c. search needs)
+    (λ c. search needs)
+    (λ c. fits (c .before))
+    (λ c. sym (front-length (c .before .before)))
+    copy-requires
+    (λ c. there (c .before .before))
+    (λ c. there (c .before .before))
+    (λ c. search needs)
+    copy-requires-2
+    (λ c. search needs)
+    returns)
