@@ -1,4 +1,4 @@
--- `session::lines::Line::of` meets its promise: its three numbers fit.
+-- `lines::Line::of` meets its promise: its three numbers fit.
 use Prim.Native.Nat.{ℕ, _+_, _≤_}
 use mathlib.Core.List.{List, [], _∷_, _++_}
 use mathlib.Core.Path.{ap, _∙_}
@@ -6,12 +6,12 @@ use native.Mathlib.Omega.{arith}
 use lib.ListN.{length}
 use borrow.Author.Needs.{needs}
 use Rattle.answers.specs.Numbers.{replyOf}
-use Rattle.session.specs.Lines.{decimal}
-use Rattle.session.proofs.Digits.{few-decimal}
-use Rattle.session.proofs.Making.{two-digits}
-use Rattle.session.specs.Made.{lineLimit}
-use Rattle.session.proofs.lines.Line.of.Statement.{statement}
-use Rattle.session.proofs.lines.Line.of.Tie as tie
+use Rattle.lines.specs.Lines.{decimal}
+use Rattle.lines.proofs.Digits.{few-decimal}
+use Rattle.lines.proofs.Making.{two-digits}
+use Rattle.lines.specs.Made.{lineLimit}
+use Rattle.lines.proofs.Line.of.Statement.{statement}
+use Rattle.lines.proofs.Line.of.Tie as tie
 
 -- the value has ten digits
 value-fits : (c : tie.After-value) → length (decimal (c .value .result)) ≤ 10

@@ -1,15 +1,15 @@
--- `session::lines::place` meets its promise.
+-- `lines::place` meets its promise.
 use Prim.Native.Nat.{ℕ, _-_}
 use mathlib.Core.List.{List, _++_}
 use mathlib.Core.Path.{sym, ap, _∙_}
 use native.Mathlib.Omega.{arith}
 use lib.ListN.{length, take, drop}
 use Rattle.writer.proofs.Splicing.{part-filled}
-use Rattle.session.specs.Buffers.{lent}
-use Rattle.session.proofs.Making.{no-place, in-place}
+use Rattle.lines.specs.Buffers.{lent}
+use Rattle.lines.proofs.Making.{no-place, in-place}
 use borrow.Author.Needs.{needs}
-use Rattle.session.proofs.lines.place.Statement.{statement}
-use Rattle.session.proofs.lines.place.Tie as tie
+use Rattle.lines.proofs.place.Statement.{statement}
+use Rattle.lines.proofs.place.Tie as tie
 
 returns : tie.Need-returns
 returns c =

@@ -1,12 +1,12 @@
--- `session::lines::Line::byte` meets its promise.
+-- `lines::Line::byte` meets its promise.
 use mathlib.Core.Path.{_≡_}
 use lib.ListN.{length}
 use borrow.Author.Needs.{needs}
 use native.Mathlib.Omega.{arith}
-use Rattle.session.proofs.Making.{byte-put}
-use Rattle.session.specs.Made.{lineLimit}
-use Rattle.session.proofs.lines.Line.byte.Statement.{statement}
-use Rattle.session.proofs.lines.Line.byte.Tie as tie
+use Rattle.lines.proofs.Making.{byte-put}
+use Rattle.lines.specs.Made.{lineLimit}
+use Rattle.lines.proofs.Line.byte.Statement.{statement}
+use Rattle.lines.proofs.Line.byte.Tie as tie
 
 returns : tie.Need-returns
 returns c =

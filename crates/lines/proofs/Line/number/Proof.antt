@@ -1,4 +1,4 @@
--- `session::lines::Line::number` meets its promise. What is left of the number has its digits in front of what is made.
+-- `lines::Line::number` meets its promise. What is left of the number has its digits in front of what is made.
 use Prim.Native.Nat.{ℕ, _+_, _/_, _^_, _<_, _≤_}
 use mathlib.Core.List.{List, _∷_, _++_}
 use mathlib.Core.Path.{_≡_, refl, sym, ap, _∙_}
@@ -6,11 +6,11 @@ use native.Mathlib.Omega.{arith}
 use lib.ListN.{length}
 use lib.Seq.{append-snoc}
 use borrow.Author.Needs.{needs}
-use Rattle.session.specs.Lines.{digitOf, digitsOf}
-use Rattle.session.specs.Made.{lineLimit, made}
-use Rattle.session.proofs.Digits.{decimal-counted, digit-put, digit-counted, no-digits}
-use Rattle.session.proofs.lines.Line.number.Statement.{statement}
-use Rattle.session.proofs.lines.Line.number.Tie as tie
+use Rattle.lines.specs.Lines.{digitOf, digitsOf}
+use Rattle.lines.specs.Made.{lineLimit, made}
+use Rattle.lines.proofs.Digits.{decimal-counted, digit-put, digit-counted, no-digits}
+use Rattle.lines.proofs.Line.number.Statement.{statement}
+use Rattle.lines.proofs.Line.number.Tie as tie
 
 abbrev Inv-loop : tie.InvT-loop
 Inv-loop n line₀ rest₀ line rest =

@@ -10,7 +10,7 @@ use lib.ListN.{length, length-append}
 use lib.Seq.{append-snoc}
 use borrow.Author.Tests.{eq-eqb, ne-eqb}
 use Rattle.answers.specs.Order.{pick}
-use Rattle.session.specs.Lines.{digitOf, digitsOf, decimal}
+use Rattle.lines.specs.Lines.{digitOf, digitsOf, decimal}
 
 below-tenth : (p n : ℕ) → n < p * 10 → n / 10 < p
 below-tenth p n h = omega arith

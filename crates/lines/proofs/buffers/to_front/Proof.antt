@@ -1,14 +1,14 @@
--- `session::buffers::to_front` meets its promise. A byte is moved down, so those that are still to be moved stand where they stood.
+-- `lines::buffers::to_front` meets its promise. A byte is moved down, so those that are still to be moved stand where they stood.
 use Prim.Native.Nat.{ℕ, _+_, _-_, _<_, _≤_}
 use mathlib.Core.List.{List, _++_}
 use mathlib.Core.Path.{_≡_, refl, sym, ap, _∙_}
 use native.Mathlib.Omega.{arith}
 use lib.ListN.{length, getD, drop, set, length-set, length-drop, drop-of-length-le}
 use borrow.Author.Needs.{needs}
-use Rattle.session.specs.Buffers.{lent}
-use Rattle.session.proofs.Moving.{movedSome, still-there, one-moved, all-moved}
-use Rattle.session.proofs.buffers.to_front.Statement.{statement}
-use Rattle.session.proofs.buffers.to_front.Tie as tie
+use Rattle.lines.specs.Buffers.{lent}
+use Rattle.lines.proofs.Moving.{movedSome, still-there, one-moved, all-moved}
+use Rattle.lines.proofs.buffers.to_front.Statement.{statement}
+use Rattle.lines.proofs.buffers.to_front.Tie as tie
 
 abbrev Inv-loop : tie.InvT-loop
 Inv-loop buf₀ from count at₀ buf at =

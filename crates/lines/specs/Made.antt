@@ -2,7 +2,7 @@
 use Prim.Native.Nat.{ℕ}
 use mathlib.Core.List.{List}
 use lib.ListN.{drop}
-use Rattle.session.specs.declared.lines.Line.{Line}
+use Rattle.lines.specs.declared.Line.{Line}
 
 -- the most bytes that a line has
 abbrev pub lineLimit : ℕ

@@ -4,7 +4,7 @@ use mathlib.Core.List.{List, [], _∷_, _++_}
 use lib.Dec.{eqb}
 use Rattle.answers.specs.Numbers.{Reply}
 use Rattle.answers.specs.Order.{pick}
-use Rattle.session.specs.Buffers.{Lent, putAt}
+use Rattle.lines.specs.Buffers.{Lent, putAt}
 
 -- the last digit of a number
 abbrev pub digitOf : ℕ → ℕ

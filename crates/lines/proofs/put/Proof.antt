@@ -1,4 +1,4 @@
--- `session::lines::put` meets its promise.
+-- `lines::put` meets its promise.
 use Prim.Native.Nat.{ℕ, _-_}
 use mathlib.Core.List.{List}
 use mathlib.Core.Path.{_≡_, ap, _∙_}
@@ -6,10 +6,10 @@ use native.Mathlib.Omega.{arith}
 use lib.ListN.{length, drop, length-drop}
 use lib.Seq.{take-all}
 use borrow.Author.Needs.{needs}
-use Rattle.session.specs.Buffers.{putAt}
-use Rattle.session.specs.Made.{lineLimit}
-use Rattle.session.proofs.lines.put.Statement.{statement}
-use Rattle.session.proofs.lines.put.Tie as tie
+use Rattle.lines.specs.Buffers.{putAt}
+use Rattle.lines.specs.Made.{lineLimit}
+use Rattle.lines.proofs.put.Statement.{statement}
+use Rattle.lines.proofs.put.Tie as tie
 
 long : (c : tie.After-of) → length (c .of .result .bytes) ≡ lineLimit
 long c = search needs

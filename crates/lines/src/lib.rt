@@ -1,12 +1,16 @@
-// The line of an event: its number, the number from the table, and the value, in decimal.
+// The bench's text: the line of an event, which is its number, the number from the table and the value, in decimal. Its
+// buffer is in `buffers`.
 ghost use mathlib.Core.Path.{_≡_};
 ghost use mathlib.Core.List.{_∷_, _++_};
 ghost use Prim.Native.Nat.{_+_, _<_, _≤_};
 ghost use lib.ListN.{length};
 ghost use Rattle.answers.specs.Numbers.{replyOf};
-ghost use Rattle.session.specs.Buffers.{lent, putAt};
-ghost use Rattle.session.specs.Lines.{digitOf, decimal, lineOf, linePut};
-ghost use Rattle.session.specs.Made.{lineLimit, made};
+ghost use Rattle.lines.specs.Buffers.{lent, putAt};
+ghost use Rattle.lines.specs.Lines.{digitOf, decimal, lineOf, linePut};
+ghost use Rattle.lines.specs.Made.{lineLimit, made};
+
+pub mod buffers;
+
 use answers::Answer;
 
 // The most bytes that a line has: event numbers of 20 digits, numbers of 2, values of 10, two spaces and the end.
