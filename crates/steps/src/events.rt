@@ -1,5 +1,5 @@
-// The events of a session: each is asked of the machine, and told: number and value, the buffer if it was written to, and what
-// changed.
+// The events of a session: each is asked of the machine, and told: number and value, the buffer if it was written to, and
+// what changed.
 use counters::ObjectNo;
 use counters::SlotNo;
 use counters::Version;
@@ -18,8 +18,8 @@ use text::show;
 // Stands for the number of a kind where the bytes of a record are given.
 pub const RECORD: u32 = 0;
 
-// An event by the number of its kind and its fields in the order of the paper's table, or by the bytes of its record; of the
-// numbers that are given, a start's list stands behind its slot, and a record's bytes behind the room.
+// An event by the number of its kind and its fields in the order of the paper's table, or by the bytes of its record. Of
+// the numbers given, a start's list stands behind its slot, and a record's bytes behind the room, which is at most 136.
 pub fn event(kind: u32, given: &[u8], room: u32, tables: Tables) -> Tables {
     let numbers = numbers_of(given);
     let bytes = numbers.bytes;
@@ -39,7 +39,7 @@ fn asked(kind: u32, given: &[u8], list: &[u8], tables: Tables, lent: &mut [u8]) 
     after
 }
 
-pub fn stepped(kind: u32, given: &[u8], list: &[u8], tables: Tables, lent: &mut [u8]) -> Stepped {
+fn stepped(kind: u32, given: &[u8], list: &[u8], tables: Tables, lent: &mut [u8]) -> Stepped {
     if kind == RECORD {
         return tables.step_record(list, lent);
     }
@@ -71,6 +71,7 @@ fn call(slot: SlotNo, object: ObjectNo, given: &[u8]) -> Fields {
     }
 }
 
+// A fresh or an end record, which is no event.
 fn no_event(kind: u32, given: &[u8]) -> Fields {
     let number = number_at(given, 0);
     let slot = SlotNo(byte_at(given, 1));

@@ -1,5 +1,5 @@
-// A session is lines of text; the first word of a line says what it asks. Each line is written, and behind it the answer, if there
-// is one.
+// A session is lines of text; the first word of a line says what it asks. Each line is written, and behind it the
+// answer, if there is one.
 use crate::events::RECORD;
 use crate::events::calls;
 use crate::events::event;
@@ -13,7 +13,7 @@ use text::scan::number_at;
 use text::scan::place_of;
 use text::show::words;
 
-// From tables of zeros, which are also those that a line `back` goes back to before any are kept.
+// From tables of zeros, which also count as kept.
 pub fn play(session: &[u8]) {
     let mut tables = Tables::fresh(Version(0), [0; 24]);
     let mut kept = tables;
@@ -34,8 +34,8 @@ fn turn(line: &[u8], tables: Tables, kept: Tables) -> Tables {
     after
 }
 
-// The numbers of the kinds of events are in the order of their words. The room of an end stands behind its tick, and that of a
-// record first; a step has 16 bytes.
+// The words of events are in the order of their kinds' numbers. The room of an end stands behind its tick, and that of a
+// record first; an event by its fields has 16 bytes.
 fn ask(line: &[u8], tables: Tables, kept: Tables) -> Tables {
     let word = place_of(
         line,
@@ -53,6 +53,7 @@ fn ask(line: &[u8], tables: Tables, kept: Tables) -> Tables {
     }
 }
 
+// Tables that are given, if the line gives any.
 fn edit(line: &[u8], tables: Tables, kept: Tables) -> Tables {
     match place_of(line, b"fresh,make,set live,set object,set pair,back") {
         0 => given::fresh(line),
@@ -65,6 +66,7 @@ fn edit(line: &[u8], tables: Tables, kept: Tables) -> Tables {
     }
 }
 
+// The tables that a line `back` goes back to.
 fn keep(line: &[u8], tables: Tables, kept: Tables) -> Tables {
     if place_of(line, b"keep") == 0 {
         tables

@@ -1,4 +1,5 @@
-// Tables that are given and not reached: fresh ones, and any with a place changed.
+// Tables that are given and not reached: fresh ones, and any with a place changed. The number of a slot counts modulo 16,
+// and that of an object modulo 24.
 ghost use Prim.Native.Nat.{_<_};
 use counters::CallCount;
 use counters::Version;

@@ -1,4 +1,5 @@
-// What a line of text says: the words that it begins with, and the decimal numbers among its words, up to a remark behind '#'.
+// What a line of text says: the words that it begins with, and the decimal numbers among its words, up to a remark
+// behind '#'.
 use bytes::scan::find;
 
 // What stands before the first such sign, and what stands behind it.
@@ -51,7 +52,7 @@ fn begins(line: &[u8], word: &[u8]) -> bool {
     true
 }
 
-// The numbers of a line, as they are and as bytes, zeros behind them, and how many have ended. A line has at most 136.
+// The numbers of a line modulo 2^32 and as bytes, zeros behind them, and how many have ended. A line has at most 136.
 pub struct Numbers {
     values: [u32; 136],
     pub bytes: [u8; 136],
@@ -113,12 +114,13 @@ pub fn number_at(line: &[u8], place: usize) -> u32 {
     numbers.values[place % 136]
 }
 
+// The same as a byte.
 pub fn byte_at(line: &[u8], place: usize) -> u8 {
     let numbers = numbers_of(line);
     numbers.bytes[place % 136]
 }
 
-// A number with a digit behind it, modulo 2^32.
+// A number with a digit behind it.
 fn longer(n: u32, digit: u8) -> u32 {
     ((n as u64 * 10 + digit as u64) % 4294967296) as u32
 }

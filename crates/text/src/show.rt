@@ -1,5 +1,5 @@
-// What is printed: words, sentences with numbers, answers, and kinds, bytes and parts in hexadecimal as the paper writes them. All of it
-// goes to standard output.
+// What is printed: words, sentences with numbers, answers, and kinds, bytes and parts in hexadecimal as the paper writes
+// them. All of it goes to standard output.
 ghost use Prim.Native.Nat.{_<_};
 use crate::scan::after;
 use crate::scan::before;

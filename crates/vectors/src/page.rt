@@ -1,5 +1,5 @@
-// The page: a vector on each line, its name up to a colon and its bytes behind that, of two records with a stroke between them. The
-// name's first letter says what is done with them; a line that begins with another is passed over.
+// The page: a vector on each line, its name up to a colon and its bytes behind that, those of two records with a stroke
+// between them. The name's first letter says what is done with them; a line that begins with another is passed over.
 use crate::ordering::order;
 use crate::reading::read;
 use crate::writing::write;
