@@ -25,7 +25,7 @@ pub fn fill(buffer: &mut [u8], hand: Hand) -> Hand
     if RECORD_LIMIT <= end - from {
         return hand;
     }
-    let kept = session::buffers::to_front(buffer, from);
+    let kept = lines::buffers::to_front(buffer, from);
     let more = io::read_full(0, &mut buffer[kept..]);
     Hand {
         from: 0,

@@ -9,3 +9,4 @@ pub mod WriteBack
 pub mod Writes
 pub mod Placing
 pub mod Products
+pub mod PartFilled

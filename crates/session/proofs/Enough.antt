@@ -15,7 +15,7 @@ use Rattle.rules.specs.Tables.{State}
 use Rattle.session.specs.Records.{Answering, framedBytes, recordBytes, sortAt, stopsAt, firstSort, firstStep, benchStep}
 use Rattle.session.specs.declared.records.Sort.{Sort}
 use Rattle.session.specs.declared.records.Sort
-use Rattle.session.specs.Lines.{lineOf}
+use Rattle.lines.specs.Lines.{lineOf}
 use Rattle.session.specs.Bench.{linesFrom}
 use Rattle.session.proofs.Taking.{taken-inside, first-inside}
 

@@ -1,8 +1,5 @@
 pub mod Taking
 pub mod Wording
-pub mod Digits
-pub mod Making
-pub mod Moving
 pub mod SessionW
 pub mod Unique
 pub mod Pieces

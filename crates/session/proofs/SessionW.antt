@@ -2,7 +2,7 @@
 use mathlib.Core.Path.{_≡_, refl}
 use Rattle.rules.specs.Walks.{anyBelow, eachBelow, joinBelow}
 use Rattle.session.specs.Records.{wordsOf}
-use Rattle.session.specs.Lines.{digitsOf}
+use Rattle.lines.specs.Lines.{digitsOf}
 use Rattle.session.specs.Bench.{linesFrom, benchOutput}
 use Rattle.session.specs.SessionW.{input, output}
 

@@ -5,7 +5,7 @@ use lib.ListN.{length, drop}
 use Rattle.answers.specs.Order.{pick}
 use Rattle.counters.specs.Sizes.{base}
 use Rattle.session.specs.Records.{Answering, firstStep, benchStep}
-use Rattle.session.specs.Lines.{lineOf}
+use Rattle.lines.specs.Lines.{lineOf}
 
 -- the line of a record, by the event's number, and the lines of those behind it
 unfoldable pub linesFrom : ℕ → ℕ → Answering → List ℕ → List ℕ

@@ -1,11 +1,9 @@
-// The bench's work on bytes and numbers: what the first record gives, what each further record gives, and the lines.
+// The bench's work on records: what the first one gives, and what each further one gives.
 ghost use mathlib.Core.Path.{_≡_};
 ghost use Rattle.counters.specs.Sizes.{base};
 ghost use Rattle.machine.specs.Views.{view};
 ghost use Rattle.session.specs.Records.{answered, beginsWith, notFresh, firstStep, benchStep};
 
-pub mod buffers;
-pub mod lines;
 mod records;
 
 use crate::records::Sort;

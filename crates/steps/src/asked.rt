@@ -1,70 +1,103 @@
-// The events of a session: each is asked of the machine, and told.
-use crate::lines::told;
-use crate::scan::bounded_at;
-use crate::scan::byte_at;
-use crate::scan::bytes_from;
-use crate::scan::count_from;
-use crate::scan::number_at;
+// The events of a session: each is asked of the machine, and told: number and value, the buffer if it was written to, and
+// what changed.
 use counters::ObjectNo;
 use counters::SlotNo;
+use counters::Version;
+use layout::fields::Fields;
+use machine::Stepped;
 use machine::Tables;
+use odd_tables::changes::changes;
+use text::scan::after;
+use text::scan::byte_at;
+use text::scan::first;
+use text::scan::number_at;
+use text::scan::numbers_of;
+use text::scan::rest;
+use text::show;
 
-// `start slot 0 with 3:2 5:0`
-pub fn start(line: &[u8], tables: Tables) -> Tables {
-    let list = bytes_from(line, 1);
-    let length = count_from(line, 1);
-    let stepped = tables.start(SlotNo(byte_at(line, 0)), &list[0..length]);
-    told(line, tables, stepped, b"")
+// Stands for the number of a kind where the bytes of a record are given.
+pub const RECORD: u32 = 0;
+
+// An event by the number of its kind and its fields in the order of the paper's table, or by the bytes of its record. Of
+// the numbers given, a start's list stands behind its slot, and a record's bytes behind the room, which is at most 136.
+pub fn event(kind: u32, given: &[u8], room: u32, tables: Tables) -> Tables {
+    let numbers = numbers_of(given);
+    let bytes = numbers.bytes;
+    let list = rest(first(&bytes, numbers.count));
+    let mut lent = [0xEEu8; 136];
+    let length = (room % 137) as usize;
+    asked(kind, given, list, tables, &mut lent[0..length])
 }
 
-// `call slot 0, object 3, spend (3) 40`
-pub fn call(line: &[u8], tables: Tables) -> Tables {
-    let slot = SlotNo(byte_at(line, 0));
-    let object = ObjectNo(byte_at(line, 1));
-    let stepped = tables.call(slot, object, byte_at(line, 2), number_at(line, 3));
-    told(line, tables, stepped, b"")
+fn asked(kind: u32, given: &[u8], list: &[u8], tables: Tables, lent: &mut [u8]) -> Tables {
+    let stepped = stepped(kind, given, list, tables, lent);
+    let answer = stepped.answer;
+    let after = stepped.tables;
+    show::answer(answer);
+    show::buffer(lent);
+    changes(tables, after);
+    after
 }
 
-// `release slot 0, object 3`
-pub fn release(line: &[u8], tables: Tables) -> Tables {
-    let stepped = tables.release(SlotNo(byte_at(line, 0)), ObjectNo(byte_at(line, 1)));
-    told(line, tables, stepped, b"")
+fn stepped(kind: u32, given: &[u8], list: &[u8], tables: Tables, lent: &mut [u8]) -> Stepped {
+    if kind == RECORD {
+        return events::step_record(tables, list, lent);
+    }
+    events::step(tables, fields(kind, given), list, lent)
 }
 
-// `commit slot 0, tick 7, room 20`
-pub fn commit(line: &[u8], tables: Tables) -> Tables {
-    let mut buffer = [0xEEu8; 136];
-    let room = bounded_at(line, 2, 136);
-    committed(line, tables, &mut buffer[0..room])
+fn fields(kind: u32, given: &[u8]) -> Fields {
+    let slot = SlotNo(byte_at(given, 0));
+    let object = ObjectNo(byte_at(given, 1));
+    let number = number_at(given, 1);
+    match kind {
+        0x0101 => Fields::Start { slot },
+        0x0102 => call(slot, object, given),
+        0x0103 => Fields::Release { slot, object },
+        0x0104 => Fields::Commit { slot, tick: number },
+        0x0105 => Fields::Rollback { slot, tick: number },
+        _ => no_event(kind, given),
+    }
 }
 
-fn committed(line: &[u8], tables: Tables, buffer: &mut [u8]) -> Tables {
-    let stepped = tables.commit(SlotNo(byte_at(line, 0)), number_at(line, 1), buffer);
-    told(line, tables, stepped, buffer)
+fn call(slot: SlotNo, object: ObjectNo, given: &[u8]) -> Fields {
+    let kind = byte_at(given, 2);
+    let argument = number_at(given, 3);
+    Fields::Call {
+        slot,
+        object,
+        kind,
+        argument,
+    }
 }
 
-// `rollback slot 0, tick 7, room 20`
-pub fn rollback(line: &[u8], tables: Tables) -> Tables {
-    let mut buffer = [0xEEu8; 136];
-    let room = bounded_at(line, 2, 136);
-    rolled_back(line, tables, &mut buffer[0..room])
+// A fresh or an end record, which is no event.
+fn no_event(kind: u32, given: &[u8]) -> Fields {
+    let number = number_at(given, 0);
+    let slot = SlotNo(byte_at(given, 1));
+    match kind {
+        0x0201 => Fields::Committed { tick: number, slot },
+        0x0202 => Fields::RolledBack { tick: number, slot },
+        _ => Fields::Fresh {
+            first: Version(number),
+        },
+    }
 }
 
-fn rolled_back(line: &[u8], tables: Tables, buffer: &mut [u8]) -> Tables {
-    let stepped = tables.rollback(SlotNo(byte_at(line, 0)), number_at(line, 1), buffer);
-    told(line, tables, stepped, buffer)
+// `make 254 calls: slot 0, object 3, add (2) 1`, of which nothing is told.
+pub fn calls(line: &[u8], given: Tables) -> Tables {
+    let call = after(line, b':');
+    let mut tables = given;
+    let mut left = number_at(line, 0);
+    while 0 < left {
+        tables = called(call, tables);
+        left = left - 1;
+    }
+    tables
 }
 
-// `record with room 20: 2 0 3 1 0 3`
-pub fn record(line: &[u8], tables: Tables) -> Tables {
-    let mut buffer = [0xEEu8; 136];
-    let room = bounded_at(line, 0, 136);
-    recorded(line, tables, &mut buffer[0..room])
-}
-
-fn recorded(line: &[u8], tables: Tables, buffer: &mut [u8]) -> Tables {
-    let record = bytes_from(line, 1);
-    let length = count_from(line, 1);
-    let stepped = events::step_record(tables, &record[0..length], buffer);
-    told(line, tables, stepped, buffer)
+fn called(call: &[u8], tables: Tables) -> Tables {
+    let mut lent = [0u8; 1];
+    let stepped = stepped(0x0102, call, b"", tables, &mut lent);
+    stepped.tables
 }

@@ -2,12 +2,6 @@
 // input is the test vectors of the steps: session W, every refusal and its place in the paper's order, both sides of
 // every limit, and odd tables.
 mod asked;
-mod changes;
-mod fields;
-mod given;
-mod lines;
-mod looks;
-mod scan;
 mod sessions;
 
 fn main() {

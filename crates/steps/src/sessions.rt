@@ -1,112 +1,76 @@
-// A session is lines of text; the first word of a line says what it asks. A line that asks nothing is written as it is.
-use crate::asked;
-use crate::fields;
-use crate::given;
-use crate::looks;
-use crate::scan::begins;
+// A session is lines of text; the first word of a line says what it asks. Each line is written, and behind it the
+// answer, if there is one.
+use crate::asked::RECORD;
+use crate::asked::calls;
+use crate::asked::event;
 use bytes::scan::find;
+use counters::Version;
 use machine::Tables;
-use show::text;
+use odd_tables::given;
+use odd_tables::looks;
+use text::scan::after;
+use text::scan::number_at;
+use text::scan::place_of;
+use text::show::words;
 
-// The tables, and those that a line `back` goes back to.
-struct Board {
-    tables: Tables,
-    kept: Tables,
-}
-
+// From tables of zeros, which also count as kept.
 pub fn play(session: &[u8]) {
-    let tables = given::fresh(b"");
-    let mut board = Board {
-        tables,
-        kept: tables,
-    };
+    let mut tables = Tables::fresh(Version(0), [0; 24]);
+    let mut kept = tables;
     let mut at: usize = 0;
     while at < session.len() {
         let end = find(session, at, session.len(), b'\n');
-        board = turn(&session[at..end], board);
+        let line = &session[at..end];
+        tables = turn(line, tables, kept);
+        kept = keep(line, tables, kept);
         at = end + 1;
     }
 }
 
-fn turn(line: &[u8], board: Board) -> Board {
-    let tables = board.tables;
-    let kept = board.kept;
-    if begins(line, b"keep") {
-        told(line);
-        return Board {
-            tables,
-            kept: tables,
-        };
+fn turn(line: &[u8], tables: Tables, kept: Tables) -> Tables {
+    words(line);
+    let after = ask(line, tables, kept);
+    words(b"\n");
+    after
+}
+
+// The words of events are in the order of their kinds' numbers. The room of an end stands behind its tick, and that of a
+// record first; an event by its fields has 16 bytes.
+fn ask(line: &[u8], tables: Tables, kept: Tables) -> Tables {
+    let word = place_of(
+        line,
+        b"start,call,release,commit,rollback,record,step,show object,show pair",
+    );
+    if word < 5 {
+        return event(0x0101 + word, line, number_at(line, 2), tables);
     }
-    if begins(line, b"back") {
-        told(line);
-        return Board { tables: kept, kept };
-    }
-    Board {
-        tables: event(line, tables),
-        kept,
+    match word {
+        5 => event(RECORD, line, number_at(line, 0), tables),
+        6 => event(number_at(line, 0), after(line, b':'), 16, tables),
+        7 => looks::object(line, tables),
+        8 => looks::pair(line, tables),
+        _ => edit(line, tables, kept),
     }
 }
 
-fn event(line: &[u8], tables: Tables) -> Tables {
-    if begins(line, b"start ") {
-        return asked::start(line, tables);
+// Tables that are given, if the line gives any.
+fn edit(line: &[u8], tables: Tables, kept: Tables) -> Tables {
+    match place_of(line, b"fresh,make,set live,set object,set pair,back") {
+        0 => given::fresh(line),
+        1 => calls(line, tables),
+        2 => given::live(line, tables),
+        3 => given::object(line, tables),
+        4 => given::pair(line, tables),
+        5 => kept,
+        _ => tables,
     }
-    if begins(line, b"call ") {
-        return asked::call(line, tables);
-    }
-    if begins(line, b"release ") {
-        return asked::release(line, tables);
-    }
-    if begins(line, b"commit ") {
-        return asked::commit(line, tables);
-    }
-    if begins(line, b"rollback ") {
-        return asked::rollback(line, tables);
-    }
-    if begins(line, b"record ") {
-        return asked::record(line, tables);
-    }
-    if begins(line, b"step ") {
-        return fields::step(line, tables);
-    }
-    look(line, tables)
 }
 
-fn look(line: &[u8], tables: Tables) -> Tables {
-    if begins(line, b"show object ") {
-        looks::object(line, tables);
-        return tables;
+// The tables that a line `back` goes back to.
+fn keep(line: &[u8], tables: Tables, kept: Tables) -> Tables {
+    if place_of(line, b"keep") == 0 {
+        tables
+    } else {
+        kept
     }
-    if begins(line, b"show pair ") {
-        looks::pair(line, tables);
-        return tables;
-    }
-    told(line);
-    edit(line, tables)
-}
-
-// A line to which there is no answer.
-fn told(line: &[u8]) {
-    text(line);
-    text(b"\n");
-}
-
-fn edit(line: &[u8], tables: Tables) -> Tables {
-    if begins(line, b"fresh ") {
-        return given::fresh(line);
-    }
-    if begins(line, b"make ") {
-        return given::calls(line, tables);
-    }
-    if begins(line, b"set live ") {
-        return given::live(line, tables);
-    }
-    if begins(line, b"set object ") {
-        return given::object(line, tables);
-    }
-    if begins(line, b"set pair ") {
-        return given::pair(line, tables);
-    }
-    tables
 }

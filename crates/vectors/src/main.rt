@@ -1,6 +1,5 @@
 // Test vectors of the records: a page of them is read from standard input, and for each the library's answer is
 // written on a line.
-mod hexadecimal;
 mod ordering;
 mod page;
 mod reading;

@@ -1,11 +1,14 @@
-// The page: a vector on each line, its name up to a colon and its bytes behind that. The name's first letter says what is
-// done with them; a line that begins with another is passed over.
+// The page: a vector on each line, its name up to a colon and its bytes behind that, those of two records with a stroke
+// between them. The name's first letter says what is done with them; a line that begins with another is passed over.
 use crate::ordering::order;
 use crate::reading::read;
 use crate::writing::write;
-use bytes::scan::find;
-use parts::behind;
-use parts::byte;
+use text::hexadecimal::decode;
+use text::hexadecimal::front;
+use text::scan::after;
+use text::scan::before;
+use text::scan::place_of;
+use text::show::words;
 
 // A page has at most 1000 lines.
 pub fn vectors(page: &[u8]) {
@@ -20,23 +23,34 @@ pub fn vectors(page: &[u8]) {
 }
 
 fn line(line: &[u8]) {
-    let name = before(line, b':');
-    let bytes = after(line, b':');
-    match byte(line, 0) {
-        b'r' => read(name, bytes),
-        b'w' => write(name, bytes),
-        b'o' => order(name, before(bytes, b'/'), after(bytes, b'/')),
-        _ => {}
+    let asked = place_of(line, b"r,w,o");
+    if 2 < asked {
+        return;
+    }
+    words(before(line, b':'));
+    bytes(asked, after(line, b':'));
+    words(b"\n");
+}
+
+fn bytes(asked: u32, text: &[u8]) {
+    match asked {
+        2 => records(asked, before(text, b'/'), after(text, b'/')),
+        _ => records(asked, text, b""),
     }
 }
 
-// What stands before the first such sign, and what stands behind it.
-fn before(s: &[u8], sign: u8) -> &[u8] {
-    let at = find(s, 0, s.len(), sign);
-    &s[0..at]
+fn records(asked: u32, a_text: &[u8], b_text: &[u8]) {
+    let mut a = [0u8; 600];
+    let mut b = [0u8; 600];
+    let a_count = decode(a_text, &mut a);
+    let b_count = decode(b_text, &mut b);
+    answer(asked, front(&a, a_count), front(&b, b_count));
 }
 
-fn after(s: &[u8], sign: u8) -> &[u8] {
-    let at = find(s, 0, s.len(), sign);
-    behind(behind(s, at), 1)
+fn answer(asked: u32, a: &[u8], b: &[u8]) {
+    match asked {
+        0 => read(a),
+        1 => write(a),
+        _ => order(a, b),
+    }
 }

@@ -1,108 +1,66 @@
 // What the reader gives: the frame, the fields or the refusal, and the parts handed back.
-use crate::hexadecimal::decode;
-use crate::hexadecimal::front;
 use layout::fields::Fields;
 use layout::fields::Framing;
 use layout::fields::Reading;
-use show::kind;
-use show::number;
-use show::part;
-use show::text;
+use text::show::kind;
+use text::show::number;
+use text::show::part;
+use text::show::sentence;
+use text::show::words;
 
-pub fn read(name: &[u8], bytes: &[u8]) {
-    let mut record = [0u8; 600];
-    let count = decode(bytes, &mut record);
-    text(name);
-    answers(front(&record, count));
-}
-
-fn answers(s: &[u8]) {
+pub fn read(s: &[u8]) {
+    words(b": frame ");
     frame(frames::frame(s));
+    words(b", read ");
     reading(reader::read(s));
-    parts(s);
+    part(b", body", frames::body(s));
+    part(b", list", reader::list(s));
 }
 
 fn frame(framing: Framing) {
     match framing {
-        Framing::Whole(found) => kind(b": frame ", found),
-        Framing::Refused(refusal) => number(b": frame ", refusal.number()),
+        Framing::Whole(found) => kind(found),
+        Framing::Refused(refusal) => number(refusal.number()),
     }
 }
 
 fn reading(reading: Reading) {
     match reading {
-        Reading::Fields(read) => fields(b", read ", read),
-        Reading::Refused(refusal) => number(b", read ", refusal.number()),
+        Reading::Fields(read) => fields(read),
+        Reading::Refused(refusal) => number(refusal.number()),
     }
-}
-
-// The body and the list, which are parts of s.
-fn parts(s: &[u8]) {
-    part(b", body", frames::body(s));
-    part(b", list", reader::list(s));
-    text(b"\n");
 }
 
 // The kind, and its fields in the order of the paper's table.
-pub fn fields(words: &[u8], read: Fields) {
-    let numbers = numbers_of(read);
-    kind(words, numbers.kind);
-    number(b" ", numbers.first);
-    others(numbers);
-}
-
-fn others(numbers: Numbers) {
-    if 1 < numbers.count {
-        number(b" ", numbers.second);
-    }
-    if 2 < numbers.count {
-        number(b" ", numbers.third);
-        number(b" ", numbers.fourth);
-    }
-}
-
-// How many fields there are, and what they hold.
-struct Numbers {
-    kind: u16,
-    count: u8,
-    first: u32,
-    second: u32,
-    third: u32,
-    fourth: u32,
-}
-
-fn numbers_of(read: Fields) -> Numbers {
+pub fn fields(read: Fields) {
     match read {
-        Fields::Fresh { first } => at_most_two(0x0100, 1, first.0, 0),
-        Fields::Start { slot } => at_most_two(0x0101, 1, slot.0 as u32, 0),
+        Fields::Fresh { first } => one(0x0100, first.0),
+        Fields::Start { slot } => one(0x0101, slot.0 as u32),
         Fields::Call {
             slot,
             object,
             kind,
             argument,
-        } => Numbers {
-            kind: 0x0102,
-            count: 4,
-            first: slot.0 as u32,
-            second: object.0 as u32,
-            third: kind as u32,
-            fourth: argument,
-        },
-        Fields::Release { slot, object } => at_most_two(0x0103, 2, slot.0 as u32, object.0 as u32),
-        Fields::Commit { slot, tick } => at_most_two(0x0104, 2, slot.0 as u32, tick),
-        Fields::Rollback { slot, tick } => at_most_two(0x0105, 2, slot.0 as u32, tick),
-        Fields::Committed { tick, slot } => at_most_two(0x0201, 2, tick, slot.0 as u32),
-        Fields::RolledBack { tick, slot } => at_most_two(0x0202, 2, tick, slot.0 as u32),
+        } => four(slot.0, object.0, kind, argument),
+        Fields::Release { slot, object } => two(0x0103, slot.0 as u32, object.0 as u32),
+        Fields::Commit { slot, tick } => two(0x0104, slot.0 as u32, tick),
+        Fields::Rollback { slot, tick } => two(0x0105, slot.0 as u32, tick),
+        Fields::Committed { tick, slot } => two(0x0201, tick, slot.0 as u32),
+        Fields::RolledBack { tick, slot } => two(0x0202, tick, slot.0 as u32),
     }
 }
 
-fn at_most_two(kind: u16, count: u8, first: u32, second: u32) -> Numbers {
-    Numbers {
-        kind,
-        count,
-        first,
-        second,
-        third: 0,
-        fourth: 0,
-    }
+fn one(number: u16, field: u32) {
+    kind(number);
+    sentence(b" _", &[field]);
+}
+
+fn two(number: u16, first: u32, second: u32) {
+    one(number, first);
+    sentence(b" _", &[second]);
+}
+
+fn four(slot: u8, object: u8, call: u8, argument: u32) {
+    two(0x0102, slot as u32, object as u32);
+    sentence(b" _ _", &[call as u32, argument]);
 }

@@ -1,8 +1,5 @@
 // What the writer gives for fields and a list, with so much room in a buffer of EE.
-use crate::hexadecimal::decode;
-use crate::hexadecimal::front;
 use crate::reading;
-use answers::Answer;
 use counters::ObjectNo;
 use counters::SlotNo;
 use counters::Version;
@@ -11,22 +8,13 @@ use parts::behind;
 use parts::byte;
 use parts::half;
 use parts::word_at;
-use show::bytes;
-use show::number;
-use show::part;
-use show::text;
-
-pub fn write(name: &[u8], bytes: &[u8]) {
-    let mut numbers = [0u8; 600];
-    let count = decode(bytes, &mut numbers);
-    text(name);
-    given(front(&numbers, count));
-}
+use text::show;
 
 // The fields in 9 bytes, the room in one, and the list.
-fn given(s: &[u8]) {
+pub fn write(s: &[u8]) {
     let fields = fields_of(s);
-    reading::fields(b": ", fields);
+    show::words(b": ");
+    reading::fields(fields);
     with_room(fields, behind(s, 10), byte(s, 9));
 }
 
@@ -56,21 +44,15 @@ fn fields_of(s: &[u8]) -> Fields {
 }
 
 fn with_room(fields: Fields, list: &[u8], room: u8) {
-    part(b", list", list);
-    number(b", room ", room as u32);
+    show::part(b", list", list);
+    show::sentence(b", room _", &[room as u32]);
     let mut buffer = [0xEEu8; 256];
     written(fields, list, &mut buffer[0..room as usize]);
 }
 
 // What the writer answers, and the buffer afterwards.
 fn written(fields: Fields, list: &[u8], buffer: &mut [u8]) {
-    number_and_value(writer::write(fields, list, buffer));
-    bytes(buffer);
-    text(b"\n");
-}
-
-fn number_and_value(answer: Answer) {
-    number(b": ", answer.number());
-    number(b" ", answer.value());
-    text(b";");
+    show::answer(writer::write(fields, list, buffer));
+    show::words(b";");
+    show::bytes(buffer);
 }

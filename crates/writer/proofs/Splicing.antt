@@ -1,34 +1,16 @@
 -- Bytes put behind what already stands at the front of a buffer.
 use Prim.Native.Nat.{ℕ, _+_, _-_, _≤_}
-use mathlib.Core.List.{List, [], _++_, append-assoc, append-nil}
+use mathlib.Core.List.{List, _++_, append-assoc}
 use mathlib.Core.Path.{_≡_, sym, ap, _∙_}
 use native.Mathlib.Omega.{arith}
-use lib.ListN.{length, take, drop, replicate, length-append, length-drop, drop-of-length-le}
-use native.Mathlib.Nat.{le-refl}
-use lib.Seq.{length-take-le, take-at, take-all, take-length, drop-drop, drop-append-add}
+use lib.ListN.{length, take, drop, replicate, length-append}
+use lib.Seq.{take-at, take-length, drop-drop, drop-append-add}
 use Rattle.layout.specs.Kinds.{shapeOf}
 use Rattle.layout.specs.Fields.{kindOfFields, frontOf, recordOf}
 use Rattle.layout.specs.declared.fields.Fields.{Fields}
 use Rattle.layout.specs.declared.fields.Fields
 use Rattle.layout.proofs.Lengths.{length-front}
 use Rattle.front.specs.Filled.{filled}
-
--- a part of a buffer that a copy has filled from its first byte, back in its place
-pub part-filled : (b src : List ℕ) (at : ℕ) → at + length src ≤ length b
-    → take at b ++ ((take (length src) src ++ drop (length src) (take (length b - at) (drop at b))) ++ drop (length b - at) (drop at b))
-    ≡ take at b ++ (src ++ drop (at + length src) b)
-part-filled b src at h =
-    let whole : take (length b - at) (drop at b) ≡ drop at b = take-all (length b - at) (drop at b) (simp length-drop (le-refl (length b - at))) in
-    let past : length b ≤ at + (length b - at) = omega arith in
-    let none : drop (at + (length b - at)) b ≡ [] = drop-of-length-le b past in
-    simp (take-length, whole, drop-drop, none, append-nil)
-
--- and it has room for what fits behind that place
-pub part-room : (b : List ℕ) (at n : ℕ) → at + n ≤ length b → n ≤ length (take (length b - at) (drop at b))
-part-room b at n h =
-    let long : length (take (length b - at) (drop at b)) ≡ length b - at =
-    length-take-le (length b - at) (drop at b) (simp length-drop (le-refl (length b - at))) in
-    omega (arith, long, h)
 
 -- the next bytes behind a front
 pub put-behind : (front x b : List ℕ) (at : ℕ) → length front ≡ at → at + length x ≤ length b

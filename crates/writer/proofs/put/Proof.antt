@@ -9,7 +9,8 @@ use Rattle.layout.specs.Kinds.{shapeOf}
 use Rattle.layout.specs.Fields.{kindOfFields}
 use Rattle.layout.specs.declared.kind.Shape.{Shape}
 use Rattle.layout.proofs.Lengths.{length-record}
-use Rattle.writer.proofs.Splicing.{part-filled, part-room, front-and-list, small-front}
+use Rattle.layout.proofs.PartFilled.{part-filled, part-room}
+use Rattle.writer.proofs.Splicing.{front-and-list, small-front}
 use borrow.Author.Needs.{needs}
 use Rattle.writer.proofs.put.Statement.{statement}
 use Rattle.writer.proofs.put.Tie as tie

@@ -6,10 +6,10 @@ use Rattle.steps.proofs.sessions.play.Statement.{statement}
 use Rattle.steps.proofs.sessions.play.Tie as tie
 
 abbrev Inv-loop : tie.InvT-loop
-Inv-loop session board₀ at₀ board at = at ≤ length session + 1
+Inv-loop session tables₀ kept₀ at₀ tables kept at = at ≤ length session + 1
 
 abbrev μ-loop : tie.MeasureT-loop
-μ-loop session board₀ at₀ board at = length session + 1 - at
+μ-loop session tables₀ kept₀ at₀ tables kept at = length session + 1 - at
 
 pub play-spec : {M : Type 1} → statement M
 play-spec =
@@ -17,13 +17,13 @@ play-spec =
     (tie.spec
     Inv-loop
     μ-loop
-    (λ c. search needs)
     (λ c κs. search needs)
     (λ c. search needs)
     (λ c κs. search needs)
     (λ c. search needs)
     (λ c. search needs)
     (λ c. search needs)
+    (λ c κs. search needs)
     (λ c κs. search needs)
     (λ c. search needs)
     (λ c. search needs)

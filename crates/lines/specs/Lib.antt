@@ -1,0 +1,3 @@
+pub mod Buffers
+pub mod Lines
+pub mod Made

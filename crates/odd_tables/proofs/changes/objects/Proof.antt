@@ -1,0 +1,29 @@
+-- The walk stays within the objects, and each turn leaves one fewer.
+use borrow.Author.Needs.{needs}
+use Prim.Native.Nat.{_≤_, _-_}
+use Rattle.tables.proofs.changes.objects.Statement.{statement}
+use Rattle.tables.proofs.changes.objects.Tie as tie
+
+abbrev Inv-loop : tie.InvT-loop
+Inv-loop before after changed₀ at₀ changed at = at ≤ 24
+
+abbrev μ-loop : tie.MeasureT-loop
+μ-loop before after changed₀ at₀ changed at = 24 - at
+
+pub objects-spec : {M : Type 1} → statement M
+objects-spec =
+    tie.close
+    (tie.spec
+    Inv-loop
+    μ-loop
+    (λ c. search needs)
+    (λ c. search needs)
+    (λ c. search needs)
+    (λ c. search needs)
+    (λ c. search needs)
+    (λ c κs. search needs)
+    (λ c κs. search needs)
+    (λ c. search needs)
+    (λ c. search needs)
+    (λ c. search needs)
+    (λ c. search needs))

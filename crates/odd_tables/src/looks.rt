@@ -1,0 +1,46 @@
+// What stands in the tables: an object, or a pair.
+use crate::given::object_at;
+use crate::given::pair_at;
+use machine::Tables;
+use objects::Object;
+use objects::Pair;
+use text::show::sentence;
+
+// `show object 3`
+pub fn object(line: &[u8], tables: Tables) -> Tables {
+    told_object(tables.objects[object_at(line)]);
+    tables
+}
+
+fn told_object(object: Object) {
+    sentence(
+        b": word _, global _, local _, terminal _",
+        &[
+            object.word,
+            object.global.0,
+            object.local.0,
+            object.terminal.0,
+        ],
+    );
+}
+
+// `show pair 0 3`
+pub fn pair(line: &[u8], tables: Tables) -> Tables {
+    told_pair(tables.pairs[pair_at(line)]);
+    tables
+}
+
+fn told_pair(pair: Pair) {
+    sentence(
+        b": supremum _, private _, count _, saved _, declared _, called _, spoiled _",
+        &[
+            pair.supremum as u32,
+            pair.private.0,
+            pair.count.0 as u32,
+            pair.saved,
+            pair.declared as u32,
+            pair.called as u32,
+            pair.spoiled as u32,
+        ],
+    );
+}
