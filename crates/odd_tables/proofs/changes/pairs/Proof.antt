@@ -1,8 +1,8 @@
 -- The same walk over the pairs.
 use borrow.Author.Needs.{needs}
 use Prim.Native.Nat.{_≤_, _-_}
-use Rattle.tables.proofs.changes.pairs.Statement.{statement}
-use Rattle.tables.proofs.changes.pairs.Tie as tie
+use Rattle.odd_tables.proofs.changes.pairs.Statement.{statement}
+use Rattle.odd_tables.proofs.changes.pairs.Tie as tie
 
 abbrev Inv-loop : tie.InvT-loop
 Inv-loop before after changed₀ at₀ changed at = at ≤ 384
