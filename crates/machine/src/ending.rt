@@ -55,6 +55,7 @@ impl Tables {
                 self.pairs[place] = ends::spoil(s, r, self.live[r], self.pairs[place]);
                 r = r + 1;
             }
+            // The slot is cleared turn by turn: no later turn reads this pair.
             self.pairs[own] = none;
             o = o + 1;
         }
