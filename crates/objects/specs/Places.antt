@@ -7,7 +7,7 @@ use Rattle.counters.specs.Versions.{next, difference, turnAt}
 use Rattle.counters.specs.declared.Version.{Version}
 use Rattle.counters.specs.declared.Turn.{Turn}
 use Rattle.counters.specs.declared.Turn.the-variants.{Now, Wait, Released}
-use Rattle.objects.specs.Kinds.{acted}
+use Rattle.kinds.specs.Kinds.{acted}
 use Rattle.objects.specs.declared.Object.{Object}
 use Rattle.objects.specs.declared.Pair.{Pair}
 

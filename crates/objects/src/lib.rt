@@ -1,11 +1,8 @@
-// One object and one pair, and what each event does to one place: the leaves that every step is made of.
+// One object and one pair, and what each event but a call does to one place: the leaves that every step is made of.
 
 ghost use mathlib.Core.Path.{_≡_};
 ghost use Rattle.counters.specs.Sizes.{base};
-ghost use Rattle.objects.specs.Places.{turnOf, givenOut, letGo, ended, restored, restores, declaredWith, countAfter, reaches, calledPair, calledObject, spoiledPair, noPair};
-
-pub mod kinds;
-
+ghost use Rattle.objects.specs.Places.{turnOf, givenOut, letGo, ended, restored, restores, declaredWith, spoiledPair, noPair};
 use counters::CallCount;
 use counters::SLOTS;
 use counters::Turn;
@@ -103,31 +100,6 @@ impl Object {
             terminal,
         }
     }
-
-    // What an accepted call does to the object: the kind acts, and at the supremum the object is let go.
-    pub fn call(self, pair: Pair, kind: u8, argument: u32) -> Object
-        ensures { λ r. ⌜ r ≡ calledObject kind argument pair self ⌝ }
-    {
-        let word = kinds::act(kind, self.word, argument).word;
-        let global = self.global;
-        let terminal = self.terminal;
-        if pair.reaches() {
-            let private = pair.private;
-            return Object {
-                word,
-                global,
-                local: private,
-                terminal,
-            };
-        }
-        let local = self.local;
-        Object {
-            word,
-            global,
-            local,
-            terminal,
-        }
-    }
 }
 
 impl Pair {
@@ -166,48 +138,6 @@ impl Pair {
     {
         let local = object.local;
         self.private.turn(local, SLOTS)
-    }
-
-    // The count after one more call: unless the supremum is 0 it rises by one, modulo 256.
-    fn count_after(self) -> u8
-        ensures { λ r. ⌜ r ≡ countAfter self ⌝ }
-    {
-        let count = self.count;
-        if self.supremum == 0 {
-            return count.0;
-        }
-        std::num::wrapping_add_u8(count.0, 1)
-    }
-
-    // Whether one more call reaches the supremum.
-    pub fn reaches(self) -> bool
-        ensures { λ r. ⌜ r ≡ reaches self ⌝ }
-    {
-        if self.supremum == 0 {
-            return false;
-        }
-        self.count_after() == self.supremum
-    }
-
-    // What an accepted call does to the pair: on the first call the word is saved; the count rises.
-    pub fn call(self, object: Object) -> Pair
-        ensures { λ r. ⌜ r ≡ calledPair self object ⌝ }
-    {
-        let private = self.private;
-        let count = CallCount(self.count_after());
-        let mut next = Pair {
-            declared: self.declared,
-            supremum: self.supremum,
-            private,
-            count,
-            called: true,
-            spoiled: self.spoiled,
-            saved: self.saved,
-        };
-        if !self.called {
-            next.saved = object.word;
-        }
-        next
     }
 
     // Whether a rollback puts the saved word back.

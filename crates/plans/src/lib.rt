@@ -30,11 +30,11 @@ pub fn call(
 {
     match verdicts::call(slot, number, kind, live, doomed, pair, object) {
         Verdict::Passes => {
-            let acted = objects::kinds::act(kind, object.word, argument);
+            let acted = kinds::act(kind, object.word, argument);
             Plan {
                 answer: Answer::Accepted(acted.answer),
-                object: object.call(pair, kind, argument),
-                pair: pair.call(object),
+                object: calls::object(object, pair, kind, argument),
+                pair: calls::pair(pair, object),
             }
         }
         Verdict::Refuses(refusal) => Plan {

@@ -13,7 +13,7 @@ use Rattle.answers.specs.declared.Refusal.{Refusal}
 use Rattle.answers.specs.declared.Refusal.the-variants.{BadSlot, BadObject, BadList, Busy, Idle, NotDeclared, BadCall, Released, Doomed, Wait, NoRoom, BadRecord}
 use Rattle.answers.proofs.Deciding.{Passes, passed}
 use Rattle.counters.specs.Sizes.{Size}
-use Rattle.objects.specs.Kinds.{acted}
+use Rattle.kinds.specs.Kinds.{acted}
 use Rattle.rules.specs.Tables.{State, objectAt, liveAt, pairAt}
 use Rattle.rules.specs.Refusing.{doomed, unmet, pairRules, startRules, callRules, releaseRules, endRules}
 use Rattle.rules.specs.Effects.{startEffect, callEffect, releaseEffect, endEffect, endRecord}

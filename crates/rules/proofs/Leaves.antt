@@ -10,7 +10,7 @@ use Rattle.answers.specs.Numbers.{accepted}
 use Rattle.answers.specs.Order.{Rule, decide}
 use Rattle.answers.proofs.Deciding.{Passes, passed}
 use Rattle.counters.specs.Sizes.{Size}
-use Rattle.objects.specs.Kinds.{acted}
+use Rattle.kinds.specs.Kinds.{acted}
 use Rattle.objects.specs.Places.{noPair}
 use Rattle.objects.specs.declared.Object.{Object}
 use Rattle.rules.specs.Tables.{State, objectAt, liveAt, pairAt}

@@ -17,7 +17,7 @@ use Rattle.layout.specs.declared.fields.Fields.{Fields}
 use Rattle.layout.specs.declared.fields.Fields
 use Rattle.layout.specs.declared.fields.Reading.{Reading}
 use Rattle.layout.specs.declared.fields.Reading
-use Rattle.objects.specs.Kinds.{acted}
+use Rattle.kinds.specs.Kinds.{acted}
 use Rattle.rules.specs.Tables.{State, objectAt, liveAt, pairAt}
 use Rattle.rules.specs.Refusing.{doomed, unmet, startRules, callRules, releaseRules, endRules}
 use Rattle.rules.specs.Effects.{startEffect, callEffect, releaseEffect, endEffect, endRecord}

@@ -4,8 +4,8 @@ use Prim.Native.Nat.{ℕ}
 use mathlib.Core.List.{List, [], _∷_, _++_}
 use lib.ListN.{getD, set}
 use Rattle.answers.specs.Order.{pick}
-use Rattle.objects.specs.Kinds.{acted}
-use Rattle.objects.specs.declared.kinds.Acted.{Acted}
+use Rattle.kinds.specs.Kinds.{acted}
+use Rattle.kinds.specs.declared.Acted.{Acted}
 use Rattle.rules.specs.Histories.{History, Call, isCommitted}
 
 -- 'the committed transactions .. in start order, with the calls they had accepted'

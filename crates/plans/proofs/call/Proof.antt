@@ -12,7 +12,7 @@ returns c =
     let told = c .before .before .before in
     let looked = told .before .before in
     let a = looked .before .args in
-    (λ i. record { answer = Accepted (c .before .before .act .ensures i .answer); object = c .before .call2 .ensures i; pair = c .call3 .ensures i })
+    (λ i. record { answer = Accepted (c .before .before .act .ensures i .answer); object = c .before .object .ensures i; pair = c .pair .ensures i })
     ∙ sym (call-accepted base (a .slot .0) (a .number .0) (a .kind) (a .argument) (a .live) (a .doomed) (a .pair) (a .object) (sym (looked .call .ensures) ∙ told .enum-told .given .1))
 
 returns-2 : tie.Need-returns-2

@@ -10,7 +10,7 @@ use Rattle.answers.proofs.Deciding.{passed}
 use Rattle.counters.specs.Sizes.{Size}
 use Rattle.layout.specs.declared.fields.Fields.{Fields}
 use Rattle.layout.specs.declared.fields.Fields
-use Rattle.objects.specs.Kinds.{acted}
+use Rattle.kinds.specs.Kinds.{acted}
 use Rattle.rules.specs.Tables.{State, objectAt, liveAt, pairAt}
 use Rattle.rules.specs.Refusing.{doomed, callRules}
 use Rattle.rules.specs.Steps.{Stepping, unchanged, callStep, releaseStep, endStep, eventStep}

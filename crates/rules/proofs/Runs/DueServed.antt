@@ -16,7 +16,7 @@ use Rattle.counters.specs.Sizes.{Size}
 use Rattle.counters.specs.Versions.{next}
 use Rattle.layout.specs.declared.fields.Fields.{Fields}
 use Rattle.layout.specs.declared.fields.Fields
-use Rattle.objects.specs.Kinds.{acted}
+use Rattle.kinds.specs.Kinds.{acted}
 use Rattle.objects.specs.Places.{turnOf, saysWait}
 use Rattle.rules.specs.Tables.{State, objectAt, liveAt, pairAt}
 use Rattle.rules.specs.Refusing.{doomed, misses, unmet, pairRules, startRules, callRules, releaseRules}

@@ -10,7 +10,7 @@ use borrow.Author.Tests.{eq-eqb}
 use Rattle.answers.specs.Order.{pick}
 use Rattle.counters.specs.Sizes.{Size}
 use Rattle.counters.specs.Versions.{turnover}
-use Rattle.objects.specs.Kinds.{acted}
+use Rattle.kinds.specs.Kinds.{acted}
 use Rattle.objects.specs.Places.{reaches, calledObject, calledPair, letGo}
 use Rattle.rules.specs.Tables.{State, objectAt, pairAt}
 use Rattle.rules.specs.Histories.{History, Transaction, Call, isLive, livesIn, withCall}

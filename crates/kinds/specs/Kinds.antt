@@ -2,7 +2,7 @@
 use Prim.Native.Nat.{ℕ, _+_, _-_, _%_, _^_}
 use lib.Dec.{leb, eqb}
 use Rattle.answers.specs.Order.{pick}
-use Rattle.objects.specs.declared.kinds.Acted.{Acted}
+use Rattle.kinds.specs.declared.Acted.{Acted}
 
 -- '0 read: none; the word'
 abbrev pub readWord : ℕ → Acted

@@ -1,8 +1,8 @@
--- `objects::kinds::act` meets its promise.
+-- `kinds::act` meets its promise.
 use borrow.Author.Needs.{needs}
 use borrow.Author.Tests.{ne-eqb, le-leb, lt-leb}
-use Rattle.objects.proofs.kinds.act.Statement.{statement}
-use Rattle.objects.proofs.kinds.act.Tie as tie
+use Rattle.kinds.proofs.act.Statement.{statement}
+use Rattle.kinds.proofs.act.Tie as tie
 
 returns : tie.Need-returns
 returns c = rw (c .match .keys1)

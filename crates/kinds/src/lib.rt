@@ -1,6 +1,6 @@
 // The kinds table: what a call of each kind does to the word, and its answer.
 ghost use mathlib.Core.Path.{_≡_};
-ghost use Rattle.objects.specs.Kinds.{acted};
+ghost use Rattle.kinds.specs.Kinds.{acted};
 
 pub struct Acted {
     pub word: u32,

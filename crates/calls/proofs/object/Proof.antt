@@ -1,7 +1,7 @@
--- `objects::Object::call` meets its promise.
+-- `calls::object` meets its promise.
 use borrow.Author.Needs.{needs}
-use Rattle.objects.proofs.Object.call.Statement.{statement}
-use Rattle.objects.proofs.Object.call.Tie as tie
+use Rattle.calls.proofs.object.Statement.{statement}
+use Rattle.calls.proofs.object.Tie as tie
 
 returns : tie.Need-returns
 returns c =
@@ -13,5 +13,5 @@ returns-2 c =
     let asked = c .before .before in
     rw (← asked .reaches .ensures, ← asked .before .before .before .act .ensures, c .before .if1 .left)
 
-pub call-spec : {M : Type 1} → statement M
-call-spec = tie.close (tie.spec (λ c κs. search needs) (λ c κs. search needs) returns returns-2)
+pub object-spec : {M : Type 1} → statement M
+object-spec = tie.close (tie.spec (λ c κs. search needs) (λ c κs. search needs) returns returns-2)

@@ -1,8 +1,8 @@
--- `objects::Pair::reaches` meets its promise.
+-- `calls::reaches` meets its promise.
 use borrow.Author.Needs.{needs}
 use borrow.Author.Tests.{eq-eqb, ne-eqb}
-use Rattle.objects.proofs.Pair.reaches.Statement.{statement}
-use Rattle.objects.proofs.Pair.reaches.Tie as tie
+use Rattle.calls.proofs.reaches.Statement.{statement}
+use Rattle.calls.proofs.reaches.Tie as tie
 
 returns : tie.Need-returns
 returns c = simp (eq-eqb _ _ (c .if1 .taken))

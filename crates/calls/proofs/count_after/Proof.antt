@@ -1,8 +1,8 @@
--- `objects::Pair::count_after` meets its promise.
+-- `calls::count_after` meets its promise.
 use borrow.Author.Needs.{needs}
 use borrow.Author.Tests.{eq-eqb, ne-eqb}
-use Rattle.objects.proofs.Pair.count_after.Statement.{statement}
-use Rattle.objects.proofs.Pair.count_after.Tie as tie
+use Rattle.calls.proofs.count_after.Statement.{statement}
+use Rattle.calls.proofs.count_after.Tie as tie
 
 returns : tie.Need-returns
 returns c = simp (eq-eqb _ _ (c .if1 .taken))
