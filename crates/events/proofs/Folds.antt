@@ -15,7 +15,8 @@ use Rattle.rules.specs.Histories.{History}
 use Rattle.rules.specs.Runs.{Run, stepped, runFrom, runOf}
 use Rattle.rules.specs.Statements.{EveryRun}
 use Rattle.rules.proofs.Runs.EveryRun.{every-run-of-the-pump}
-use Rattle.machine.specs.Views.{view, FreshGives}
+use Rattle.machine.specs.Views.{view}
+use Rattle.events.specs.Promises.{FreshGives}
 use Rattle.events.specs.Folds.{Given, Folded, lastTables, outcomesGiven, outcomesFrom, notedFrom, CodeRuns, codeRun, Handed, eventRead, eventHanded, FoldedRecords}
 use Rattle.machine.specs.declared.Tables.{Tables}
 

@@ -11,10 +11,10 @@ use Rattle.rules.specs.Steps.{Outcome}
 use Rattle.rules.specs.Events.{Event, outcomeOf}
 use Rattle.rules.specs.Histories.{History, noted}
 use Rattle.rules.specs.Runs.{Run}
-use Rattle.machine.specs.Views.{view, ended, FreshGives}
+use Rattle.machine.specs.Views.{view, ended}
 use Rattle.machine.specs.declared.Tables.{Tables}
 use Rattle.machine.specs.declared.Stepped.{Stepped}
-use Rattle.events.specs.Promises.{StepGives, RecordGives}
+use Rattle.events.specs.Promises.{FreshGives, StepGives, RecordGives}
 
 -- what a step gave back: the tables and the answer, and the buffer that it was lent, as it stands afterwards
 pub record Given : Type 0 where

@@ -1,4 +1,4 @@
--- The promises of a step by fields and of a step by bytes, which a fold of steps cites.
+-- The promises of fresh, of a step by fields and of a step by bytes, which a fold of steps cites.
 use Prim.Native.Nat.{ℕ}
 use mathlib.Core.List.{List}
 use mathlib.Core.Path.{_≡_}
@@ -7,7 +7,12 @@ use Rattle.layout.specs.declared.fields.Fields.{Fields}
 use Rattle.machine.specs.Views.{view, ended}
 use Rattle.machine.specs.declared.Tables.{Tables}
 use Rattle.machine.specs.declared.Stepped.{Stepped}
+use Rattle.rules.specs.Tables.{freshTables}
 use Rattle.rules.specs.Steps.{eventStep, recordStep}
+
+-- what `fresh` promises of the tables that it returns
+abbrev pub FreshGives : ℕ → List ℕ → Tables → Type 0
+FreshGives first words t = view t ≡ freshTables base words first
 
 -- what `step` promises of what it returns and of the buffer afterwards
 abbrev pub StepGives : Tables → Fields → List ℕ → List ℕ → Stepped → List ℕ → Type 0

@@ -1,15 +1,48 @@
-// An event on the machine, by the fields of its record or by the record's bytes.
+// How a run begins and goes on: fresh tables, an event by its fields, an event by its bytes.
 ghost use mathlib.Core.Path.{_≡_};
 ghost use Rattle.answers.specs.declared.Refusal.the-variants.{BadRecord};
 ghost use Rattle.machine.specs.Views.{view, told};
 ghost use Rattle.rules.specs.Steps.{unchanged};
-ghost use Rattle.events.specs.Promises.{StepGives, RecordGives};
+ghost use Rattle.events.specs.Promises.{FreshGives, StepGives, RecordGives};
 use answers::Answer;
 use answers::Refusal;
+use counters::Version;
 use layout::fields::Fields;
 use layout::fields::Reading;
 use machine::Stepped;
 use machine::Tables;
+use objects::Object;
+use objects::Pair;
+
+// Given a word for each object and a first version, all three versions of every object are that version and no slot
+// is live.
+pub fn fresh(first: Version, words: [u32; 24]) -> Tables
+    ensures { λ r. ⌜ FreshGives (first .0) words r ⌝ }
+{
+    let none = Pair::none();
+    let zero = Object {
+        word: 0,
+        global: first,
+        local: first,
+        terminal: first,
+    };
+    let mut tables = Tables {
+        objects: [zero; 24],
+        live: [false; 16],
+        pairs: [none; 384],
+    };
+    let mut o: usize = 0;
+    while o < 24 {
+        tables.objects[o] = Object {
+            word: words[o],
+            global: first,
+            local: first,
+            terminal: first,
+        };
+        o = o + 1;
+    }
+    tables
+}
 
 // The list is the one that stands beside the fields. A fresh or an end record is no event.
 pub fn step(tables: Tables, fields: Fields, list: &[u8], buf: &mut [u8]) -> Stepped

@@ -2,7 +2,7 @@
 ghost use mathlib.Core.Path.{_≡_};
 ghost use Rattle.counters.specs.Sizes.{base};
 ghost use Rattle.rules.specs.Steps.{callStep, releaseStep};
-ghost use Rattle.machine.specs.Views.{view, told, FreshGives};
+ghost use Rattle.machine.specs.Views.{view, told};
 
 pub mod ending;
 pub mod starting;
@@ -12,7 +12,6 @@ use counters::OBJECTS;
 use counters::ObjectNo;
 use counters::SLOTS;
 use counters::SlotNo;
-use counters::Version;
 use objects::Object;
 use objects::Pair;
 
@@ -29,36 +28,6 @@ pub struct Stepped {
 }
 
 impl Tables {
-    // Given a word for each object and a first version, all three versions of every object are that version and no slot
-    // is live.
-    pub fn fresh(first: Version, words: [u32; 24]) -> Tables
-        ensures { λ r. ⌜ FreshGives (first .0) words r ⌝ }
-    {
-        let none = Pair::none();
-        let zero = Object {
-            word: 0,
-            global: first,
-            local: first,
-            terminal: first,
-        };
-        let mut tables = Tables {
-            objects: [zero; 24],
-            live: [false; 16],
-            pairs: [none; 384],
-        };
-        let mut o: usize = 0;
-        while o < 24 {
-            tables.objects[o] = Object {
-                word: words[o],
-                global: first,
-                local: first,
-                terminal: first,
-            };
-            o = o + 1;
-        }
-        tables
-    }
-
     // A call, by the kinds table.
     pub fn call(mut self, slot: SlotNo, number: ObjectNo, kind: u8, argument: u32) -> Stepped
         ensures { λ r. ⌜ told r ≡ callStep base (view self) (slot .0) (number .0) kind argument ⌝ }

@@ -42,12 +42,12 @@ pub fn fresh(line: &[u8]) -> Tables {
     let first = Version(number_at(line, 0));
     let numbers = numbers_of(line);
     if numbers.count < 2 {
-        return Tables::fresh(first, WORDS);
+        return events::fresh(first, WORDS);
     }
     let mut words = [number_at(line, 1); 24];
     let object = (number_at(line, 2) % 24) as usize;
     words[object] = number_at(line, 3);
-    Tables::fresh(first, words)
+    events::fresh(first, words)
 }
 
 // `set live 2`

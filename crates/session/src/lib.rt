@@ -38,7 +38,7 @@ fn fresh(first: Version, bytes: &[u8]) -> Answered
 {
     let words = records::words(reader::list(bytes));
     Answered {
-        tables: Tables::fresh(first, words),
+        tables: events::fresh(first, words),
         answer: Answer::Accepted(0),
         prints: false,
         stops: false,
@@ -51,7 +51,7 @@ fn not_fresh(bytes: &[u8]) -> Answered
     ensures { λ r. ⌜ answered r ≡ notFresh base (now (bytes .entry)) ⌝ }
 {
     Answered {
-        tables: Tables::fresh(Version(0), [0; 24]),
+        tables: events::fresh(Version(0), [0; 24]),
         answer: Answer::Refused(Refusal::BadRecord),
         prints: true,
         stops: true,

@@ -15,7 +15,7 @@ use text::show::words;
 
 // From tables of zeros, which also count as kept.
 pub fn play(session: &[u8]) {
-    let mut tables = Tables::fresh(Version(0), [0; 24]);
+    let mut tables = events::fresh(Version(0), [0; 24]);
     let mut kept = tables;
     let mut at: usize = 0;
     while at < session.len() {

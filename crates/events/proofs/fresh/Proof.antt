@@ -1,4 +1,4 @@
--- `machine::Tables::fresh` meets its promise.
+-- `events::fresh` meets its promise.
 use mathlib.Core.Path.{_≡_, refl, sym, ap, _∙_}
 use lib.ListN.{length, getD, take, replicate, length-set}
 use Rattle.objects.specs.declared.Pair.{Pair}
@@ -9,9 +9,9 @@ use native.Mathlib.Omega.{arith}
 use lib.Seq.{take-all}
 use Rattle.counters.specs.Sizes.{base}
 use Rattle.rules.specs.Tables.{freshObject}
-use Rattle.machine.proofs.Filling.{filled-on}
-use Rattle.machine.proofs.Tables.fresh.Statement.{statement}
-use Rattle.machine.proofs.Tables.fresh.Tie as tie
+use Rattle.events.proofs.Filling.{filled-on}
+use Rattle.events.proofs.fresh.Statement.{statement}
+use Rattle.events.proofs.fresh.Tie as tie
 
 abbrev Inv-loop : tie.InvT-loop
 Inv-loop first words tables₀ o₀ tables o =
