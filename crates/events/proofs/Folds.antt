@@ -11,10 +11,10 @@ use Rattle.reader.proofs.Refusing.{only-bad-record}
 use Rattle.rules.specs.Tables.{State}
 use Rattle.rules.specs.Steps.{Outcome, unchanged, beside, readStep, recordStep}
 use Rattle.rules.specs.Events.{Event, outcomeOf}
-use Rattle.rules.specs.Histories.{History}
-use Rattle.rules.specs.Runs.{Run, stepped, runFrom, runOf}
-use Rattle.rules.specs.Statements.{EveryRun}
-use Rattle.rules.proofs.Runs.EveryRun.{every-run-of-the-pump}
+use Rattle.runs.specs.Histories.{History}
+use Rattle.runs.specs.Runs.{Run, stepped, runFrom, runOf}
+use Rattle.runs.specs.Statements.{EveryRun}
+use Rattle.runs.proofs.EveryRun.{every-run-of-the-pump}
 use Rattle.machine.specs.Views.{view}
 use Rattle.events.specs.Promises.{FreshGives}
 use Rattle.events.specs.Folds.{Given, Folded, lastTables, outcomesGiven, outcomesFrom, notedFrom, CodeRuns, codeRun, Handed, eventRead, eventHanded, FoldedRecords}

@@ -9,8 +9,8 @@ use Rattle.layout.specs.declared.fields.Reading.{Reading}
 use Rattle.rules.specs.Tables.{State}
 use Rattle.rules.specs.Steps.{Outcome}
 use Rattle.rules.specs.Events.{Event, outcomeOf}
-use Rattle.rules.specs.Histories.{History, noted}
-use Rattle.rules.specs.Runs.{Run}
+use Rattle.runs.specs.Histories.{History, noted}
+use Rattle.runs.specs.Runs.{Run}
 use Rattle.machine.specs.Views.{view, ended}
 use Rattle.machine.specs.declared.Tables.{Tables}
 use Rattle.machine.specs.declared.Stepped.{Stepped}

@@ -17,7 +17,7 @@ use Rattle.rules.specs.Tables.{State, objectAt, liveAt, pairAt}
 use Rattle.rules.specs.Refusing.{doomed, startRules, callRules, releaseRules}
 use Rattle.rules.specs.Effects.{startEffect, callEffect, releaseEffect}
 use Rattle.rules.specs.Steps.{Stepping, unchanged, startStep, callStep, releaseStep}
-use Rattle.rules.specs.Histories.{names}
+use Rattle.rules.specs.Events.{names}
 use Rattle.rules.proofs.Picking.{both-true, pick-when}
 use Rattle.rules.proofs.Stores.{Sized}
 use Rattle.rules.proofs.Exactly.{start-exactly, call-exactly, release-exactly}

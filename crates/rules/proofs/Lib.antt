@@ -14,4 +14,3 @@ pub mod Ended
 pub mod Leaves
 pub mod EndLeaves
 pub mod SizesKept
-pub mod Runs

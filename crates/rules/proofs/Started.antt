@@ -16,7 +16,7 @@ use Rattle.objects.specs.declared.Pair.{Pair}
 use Rattle.rules.specs.Tables.{State, noObject, objectAt, liveAt, pairAt, withObject}
 use Rattle.rules.specs.Refusing.{pairRules}
 use Rattle.rules.specs.Effects.{clearSlot, declareOne, declareAll, startEffect}
-use Rattle.rules.specs.Histories.{names}
+use Rattle.rules.specs.Events.{names}
 use Rattle.rules.proofs.Picking.{and-false, both-true, pick-nested, pick-moved}
 use Rattle.rules.proofs.Stores.{Sized, pair-after, object-after, live-after, sized-pair, sized-object, sized-live}
 use Rattle.rules.proofs.Cleared.{clear-objects, clear-live, clear-sized, clear-pairs}

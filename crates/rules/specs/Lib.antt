@@ -4,8 +4,4 @@ pub mod Refusing
 pub mod Effects
 pub mod Steps
 pub mod Events
-pub mod Histories
-pub mod Runs
-pub mod LoneRun
-pub mod Statements
 pub mod SessionW

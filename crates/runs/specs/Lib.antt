@@ -1,0 +1,4 @@
+pub mod Histories
+pub mod Runs
+pub mod LoneRun
+pub mod Statements
