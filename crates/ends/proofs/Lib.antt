@@ -1,4 +1,5 @@
 pub mod Entering
+pub mod Conclusions
 pub mod EndLoops
 pub mod EndClears
 pub mod EndTurns

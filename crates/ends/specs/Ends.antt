@@ -1,22 +1,20 @@
--- What an end has seen of its slot's objects, and what it makes of one object and of one pair of another slot.
+-- What an end has seen of its slot's objects, what it makes of one object and of one pair of another slot, and what it comes to.
 use Prim.Native.Nat.{ℕ, _+_}
 use mathlib.Core.Bool.{Bool, false, not, _&&_, _||_}
 use mathlib.Core.List.{List, _++_}
-use lib.ListN.{take, drop, replicate}
+use lib.ListN.{length, take, drop, replicate}
 use lib.Dec.{leb, ltb, eqb}
-use Rattle.answers.specs.Order.{pick}
+use Rattle.answers.specs.Numbers.{Reply, replyOf, accepted, refused}
+use Rattle.answers.specs.Order.{Rule, decide, pick}
 use Rattle.counters.specs.Sizes.{Size}
+use Rattle.layout.specs.Fields.{recordOf}
 use Rattle.objects.specs.Places.{ended, restores, restored, spoiledPair}
 use Rattle.objects.specs.declared.Object.{Object}
 use Rattle.objects.specs.declared.Pair.{Pair}
-use Rattle.rules.specs.Refusing.{misses}
-use Rattle.answers.specs.Numbers.{refused}
-use Rattle.layout.specs.Writing.{Written, placing}
+use Rattle.rules.specs.Refusing.{misses, endRules}
 use Rattle.rules.specs.Effects.{entryOf, endFields}
-use Rattle.verdicts.specs.Verdicts.{passesOf}
 use Rattle.ends.specs.declared.Sight.{Sight}
-use Rattle.verdicts.specs.declared.Verdict.{Verdict}
-use Rattle.verdicts.specs.declared.Verdict.the-variants.{Passes, Refuses}
+use Rattle.ends.specs.declared.concluding.Conclusion.{Conclusion}
 
 -- before the first object
 abbrev pub noSight : Sight
@@ -52,15 +50,38 @@ spreadOf z rollback pair = pick (rollback && restores pair) (z .slots) 0
 abbrev pub spoiledBy : ℕ → ℕ → Bool → Pair → Pair
 spoiledBy s r live pair = pick (live && (not (eqb r s) && pair .called)) (spoiledPair pair) pair
 
--- '.. and the slot cleared'
-abbrev pub liveAfter : Verdict → Bool → Bool
-liveAfter verdict live = pick (passesOf verdict) false live
-
 -- how many bytes of a sight its entries have, never more than there is room for
 abbrev pub entryBytes : ℕ → ℕ
 entryBytes bytes = pick (ltb 120 bytes) 120 bytes
 
--- what an end writes: nothing where the verdict refuses, else its record, readable or not
-abbrev pub endWriting : Size → Verdict → Bool → ℕ → ℕ → List ℕ → List ℕ → Written
-endWriting z Passes rollback slot tick entries buffer = placing z (endFields rollback tick slot) entries buffer
-endWriting z (Refuses refusal) rollback slot tick entries buffer = record { reply = refused refusal; buffer = buffer }
+-- the record of an end, from the entries that it has seen
+abbrev pub recordSeen : Bool → ℕ → ℕ → Sight → List ℕ
+recordSeen rollback slot tick sight = recordOf (endFields rollback tick slot) (take (sight .bytes) (sight .entries))
+
+-- its rules, on what it has seen
+abbrev pub rulesSeen : Size → Bool → ℕ → Bool → ℕ → Sight → List ℕ → List Rule
+rulesSeen z rollback slot live tick sight buffer =
+    endRules z rollback slot live (sight .doomed) (sight .unmet) (ltb (length buffer) (length (recordSeen rollback slot tick sight)))
+
+-- what an end comes to, and all of the buffer that was lent
+pub record Concluded : Type 0 where
+  pub reply : Reply
+  pub reach : ℕ
+  pub live : Bool
+  pub buffer : List ℕ
+
+abbrev pub concluded : Conclusion → List ℕ → Concluded
+concluded r buffer = record { reply = replyOf (r .answer); reach = r .reach; live = r .live; buffer = buffer }
+
+-- where a rule refuses, nothing is written, no object has its turn and the slot stays as it was; else the record is written, every object
+-- has its turn, '.. and the slot cleared'
+abbrev pub conclusionOf : Size → Bool → ℕ → Bool → ℕ → Sight → List ℕ → Concluded
+conclusionOf z rollback slot live tick sight buffer =
+    decide (rulesSeen z rollback slot live tick sight buffer)
+    (λ refusal. record { reply = refused refusal; reach = 0; live = live; buffer = buffer })
+    (record {
+      reply = accepted (length (recordSeen rollback slot tick sight));
+      reach = z .objects;
+      live = false;
+      buffer = recordSeen rollback slot tick sight ++ drop (length (recordSeen rollback slot tick sight)) buffer;
+    })

@@ -1,24 +1,17 @@
-// An end: what it sees of its slot's objects, what its rules say then, and what it makes of one object, of one pair of
-// another slot and of its own slot.
+// An end: what it sees of its slot's objects, what it comes to then, and what it makes of one object and of one pair of
+// another slot.
 ghost use mathlib.Core.Bool.{_&&_};
-ghost use mathlib.Core.List.{[], _∷_};
 ghost use mathlib.Core.Path.{_≡_};
-ghost use Rattle.answers.specs.Order.{decide, _when_};
-ghost use Rattle.answers.specs.declared.Refusal.the-variants.{Wait, NoRoom};
 ghost use Rattle.counters.specs.Sizes.{base};
 ghost use Rattle.objects.specs.Places.{restores};
-ghost use Rattle.rules.specs.Refusing.{misses, endRules};
-ghost use Rattle.ends.specs.Ends.{noSight, seen, endedObject, spreadOf, spoiledBy, liveAfter};
-ghost use Rattle.verdicts.specs.declared.Verdict.the-variants.{Passes, Refuses};
+ghost use Rattle.rules.specs.Refusing.{misses};
+ghost use Rattle.ends.specs.Ends.{noSight, seen, endedObject, spreadOf, spoiledBy};
 
-pub mod writing;
+pub mod concluding;
 
-use answers::Refusal;
 use counters::SLOTS;
-use counters::SlotNo;
 use objects::Object;
 use objects::Pair;
-use verdicts::Verdict;
 use verdicts::either;
 
 // Whether the slot is doomed, whether a terminal need is not met, and the entries of the record, so far.
@@ -78,45 +71,6 @@ fn misses(pair: Pair, object: Object) -> bool
     !pair.private.meets_terminal_need(terminal)
 }
 
-// Commit: 1, 5, 9, 10, 11. Rollback: 1, 5, 10, 11.
-pub fn verdict(
-    slot: SlotNo,
-    rollback: bool,
-    live: bool,
-    doomed: bool,
-    unmet: bool,
-    short: bool,
-) -> Verdict
-    ensures { λ r. ⌜ r ≡ decide (endRules base rollback (slot .0) live doomed unmet short) Refuses Passes ⌝ }
-{
-    if SLOTS <= slot.0 {
-        return Verdict::Refuses(Refusal::BadSlot);
-    }
-    if !live {
-        return Verdict::Refuses(Refusal::Idle);
-    }
-    if rollback {
-        return last(unmet, short);
-    }
-    if doomed {
-        return Verdict::Refuses(Refusal::Doomed);
-    }
-    last(unmet, short)
-}
-
-// The last rules of both: 10, 11.
-fn last(unmet: bool, short: bool) -> Verdict
-    ensures { λ r. ⌜ r ≡ decide (Wait when unmet ∷ NoRoom when short ∷ []) Refuses Passes ⌝ }
-{
-    if unmet {
-        return Verdict::Refuses(Refusal::Wait);
-    }
-    if short {
-        return Verdict::Refuses(Refusal::NoRoom);
-    }
-    Verdict::Passes
-}
-
 // Whether the end puts the saved word of the pair back.
 fn puts_back(rollback: bool, pair: Pair) -> bool
     ensures { λ r. ⌜ r ≡ (rollback && restores pair) ⌝ }
@@ -165,14 +119,4 @@ pub fn spoil(s: usize, r: usize, live: bool, pair: Pair) -> Pair
         return pair.spoil();
     }
     pair
-}
-
-// Whether the slot is live afterwards.
-pub fn stays_live(verdict: Verdict, live: bool) -> bool
-    ensures { λ r. ⌜ r ≡ liveAfter verdict live ⌝ }
-{
-    match verdict {
-        Verdict::Passes => false,
-        Verdict::Refuses(_) => live,
-    }
 }

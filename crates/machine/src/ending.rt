@@ -24,7 +24,7 @@ impl Tables {
         self.end(slot, tick, true, buf)
     }
 
-    // Where the verdict refuses, nothing is written, no object has its turn and the slot stays as it was.
+    // Every object of the slot is looked at, then each has its turn, or none where the end is refused.
     fn end(mut self, slot: SlotNo, tick: u32, rollback: bool, buf: &mut [u8]) -> Stepped
         ensures { λ r. ⌜ ended r (now (buf .exit)) ≡ endStep base rollback (view self) (slot .0) tick (now (buf .entry)) ⌝ }
     {
@@ -36,11 +36,8 @@ impl Tables {
             sight = sight.look(at as u8, self.pairs[from + at], self.objects[at]);
             at = at + 1;
         }
-        let live = self.live[s];
-        let short = buf.len() < 10 + sight.bytes;
-        let verdict = ends::verdict(slot, rollback, live, sight.doomed, sight.unmet, short);
-        let answer = ends::writing::write(verdict, rollback, slot, tick, sight, buf);
-        let reach = verdict.reach(24);
+        let conclusion = sight.conclude(slot, rollback, self.live[s], tick, buf);
+        let reach = conclusion.reach;
         let none = Pair::none();
         let mut o: usize = 0;
         while o < reach {
@@ -59,7 +56,8 @@ impl Tables {
             self.pairs[own] = none;
             o = o + 1;
         }
-        self.live[s] = ends::stays_live(verdict, live);
+        self.live[s] = conclusion.live;
+        let answer = conclusion.answer;
         Stepped {
             tables: self,
             answer,

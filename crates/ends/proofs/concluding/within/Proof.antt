@@ -1,7 +1,7 @@
--- `ends::writing::within` meets its promise.
+-- `ends::concluding::within` meets its promise.
 use borrow.Author.Tests.{lt-ltb, le-ltb}
-use Rattle.ends.proofs.writing.within.Statement.{statement}
-use Rattle.ends.proofs.writing.within.Tie as tie
+use Rattle.ends.proofs.concluding.within.Statement.{statement}
+use Rattle.ends.proofs.concluding.within.Tie as tie
 
 returns : tie.Need-returns
 returns c = rw (lt-ltb _ _ (c .if1 .taken))
