@@ -4,3 +4,4 @@ pub mod EndLoops
 pub mod EndClears
 pub mod EndTurns
 pub mod EndStep
+pub mod Unique
