@@ -3,7 +3,6 @@ use Prim.Native.Nat.{ℕ}
 use mathlib.Core.List.{List}
 use mathlib.Core.Path.{_≡_, ap}
 use Rattle.answers.proofs.Tells.{reply-tells}
-use Rattle.rules.specs.Tables.{State}
 use Rattle.rules.specs.Steps.{Stepping, Outcome}
 use Rattle.machine.specs.Views.{view, told, ended}
 use Rattle.machine.specs.declared.Tables.{Tables}

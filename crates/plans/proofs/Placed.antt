@@ -17,7 +17,6 @@ use Rattle.answers.specs.declared.Answer.the-variants.{Accepted, Refused}
 use Rattle.counters.specs.Sizes.{Size}
 use Rattle.kinds.specs.Kinds.{acted}
 use Rattle.objects.specs.Places.{noPair, letGo, calledObject, calledPair}
-use Rattle.objects.specs.declared.Object.{Object}
 use Rattle.objects.specs.declared.Pair.{Pair}
 use Rattle.rules.specs.Tables.{State, noObject, objectAt, liveAt, pairAt, withObject, withPair}
 use Rattle.rules.specs.Refusing.{doomed, turnRules}
