@@ -16,8 +16,8 @@ use Rattle.runs.specs.Runs.{Run, stepped, runFrom, runOf}
 use Rattle.runs.specs.Statements.{EveryRun}
 use Rattle.runs.proofs.EveryRun.{every-run-of-the-pump}
 use Rattle.machine.specs.Views.{view}
 use Rattle.events.specs.Promises.{FreshGives}
-use Rattle.events.specs.Folds.{Given, Folded, lastTables, outcomesGiven, outcomesFrom, notedFrom, CodeRuns, codeRun, Handed, eventRead, eventHanded, FoldedRecords}
+use Rattle.folds.specs.Folds.{Given, Folded, lastTables, outcomesGiven, outcomesFrom, notedFrom, CodeRuns, codeRun, Handed, eventRead, eventHanded, FoldedRecords}
 use Rattle.machine.specs.declared.Tables.{Tables}
 
 -- the tables and the history that a fold leaves are those of the rules' run
