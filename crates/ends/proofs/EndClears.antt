@@ -16,7 +16,7 @@ use Rattle.rules.specs.Effects.{spoilOne, spoilOthers, restoreOne, endOne, endT
 use Rattle.rules.proofs.Picking.{pick-seen}
 use Rattle.rules.proofs.Restored.{hasCalled}
 use Rattle.rules.proofs.Stores.{place-apart, pair-elsewhere}
-use Rattle.verdicts.proofs.StartLoops.{clearedTo}
+use Rattle.starts.proofs.StartLoops.{clearedTo}
 
 -- the turn of an object, and the slot's pair on it zero
 abbrev pub endCleared : Size → Bool → ℕ → ℕ → State → State

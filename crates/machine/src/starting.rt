@@ -18,7 +18,7 @@ impl Tables {
         let s = (slot.0 % SLOTS) as usize;
         let from = s * 24;
         let live = self.live[s];
-        let verdict = verdicts::starting::verdict(slot, live, list);
+        let verdict = starts::verdict(slot, live, list);
         let reach = verdict.reach(24);
         let end = verdict.reach(list.len());
         let none = Pair::none();

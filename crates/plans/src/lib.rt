@@ -28,7 +28,7 @@ pub fn call(
 ) -> Plan
     ensures { λ r. ⌜ r ≡ callPlan base (slot .0) (number .0) kind argument live doomed pair object ⌝ }
 {
-    match verdicts::call(slot, number, kind, live, doomed, pair, object) {
+    match turns::call(slot, number, kind, live, doomed, pair, object) {
         Verdict::Passes => {
             let acted = kinds::act(kind, object.word, argument);
             Plan {
@@ -48,7 +48,7 @@ pub fn call(
 pub fn release(slot: SlotNo, number: ObjectNo, live: bool, pair: Pair, object: Object) -> Plan
     ensures { λ r. ⌜ r ≡ releasePlan base (slot .0) (number .0) live pair object ⌝ }
 {
-    match verdicts::release(slot, number, live, pair, object) {
+    match turns::release(slot, number, live, pair, object) {
         Verdict::Passes => {
             let private = pair.private;
             Plan {

@@ -1,4 +1,2 @@
 pub mod Saying
-pub mod PairWalk
 pub mod Reaching
-pub mod StartLoops

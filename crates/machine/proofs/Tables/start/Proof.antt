@@ -5,7 +5,7 @@ use native.Mathlib.Nat.{mod-eq-of-lt}
 use lib.ListN.{getD}
 use Rattle.counters.specs.Sizes.{base}
 use Rattle.machine.specs.Views.{view}
-use Rattle.verdicts.proofs.StartLoops.{Clearing, clears-first, clears-on, Declaring, declares-first, declares-on, started}
+use Rattle.starts.proofs.StartLoops.{Clearing, clears-first, clears-on, Declaring, declares-first, declares-on, started}
 use Rattle.machine.proofs.Tables.start.Statement.{statement}
 use Rattle.machine.proofs.Tables.start.Tie as tie
 

@@ -1,8 +1,8 @@
--- `verdicts::starting::verdict` meets its promise.
+-- `starts::verdict` meets its promise.
 use borrow.Author.Needs.{needs}
 use borrow.Author.Tests.{le-leb, lt-leb, lt-ltb, le-ltb, eq-eqb, ne-eqb}
-use Rattle.verdicts.proofs.starting.verdict.Statement.{statement}
-use Rattle.verdicts.proofs.starting.verdict.Tie as tie
+use Rattle.starts.proofs.verdict.Statement.{statement}
+use Rattle.starts.proofs.verdict.Tie as tie
 
 returns : tie.Need-returns
 returns c = simp (le-leb _ _ (c .if1 .taken))

@@ -3,12 +3,12 @@ ghost use mathlib.Core.Path.{_≡_};
 ghost use Rattle.answers.specs.Order.{decide};
 ghost use Rattle.counters.specs.Sizes.{base};
 ghost use Rattle.rules.specs.Refusing.{startRules, pairRules};
 ghost use Rattle.verdicts.specs.declared.Verdict.the-variants.{Passes, Refuses};
-use crate::Verdict;
 use answers::Refusal;
 use counters::OBJECTS;
 use counters::SLOTS;
 use counters::SlotNo;
+use verdicts::Verdict;
 
 // 'Its pairs from the first: object too large (2), not above the one before (3).'
 fn pairs(list: &[u8]) -> Verdict

@@ -1,7 +1,7 @@
--- `verdicts::place` meets its promise.
+-- `turns::place` meets its promise.
 use borrow.Author.Tests.{le-leb, lt-leb}
-use Rattle.verdicts.proofs.place.Statement.{statement}
-use Rattle.verdicts.proofs.place.Tie as tie
+use Rattle.turns.proofs.place.Statement.{statement}
+use Rattle.turns.proofs.place.Tie as tie
 
 returns : tie.Need-returns
 returns c = simp (le-leb _ _ (c .if1 .taken))

@@ -1,4 +1,4 @@
--- `verdicts::starting::pairs` meets its promise.
+-- `starts::pairs` meets its promise.
 use borrow.Author.Needs.{needs}
 use Prim.Native.Nat.{_≤_, _-_}
 use mathlib.Core.Path.{_≡_, _∙_, sym}
@@ -6,10 +6,10 @@ use lib.ListN.{length, drop}
 use Rattle.answers.specs.Order.{decide}
 use Rattle.counters.specs.Sizes.{base}
 use Rattle.rules.specs.Refusing.{pairRules}
 use Rattle.verdicts.specs.declared.Verdict.the-variants.{Passes, Refuses}
-use Rattle.verdicts.proofs.PairWalk.{too-large, not-above, rises-on, pairs-end}
-use Rattle.verdicts.proofs.starting.pairs.Statement.{statement}
-use Rattle.verdicts.proofs.starting.pairs.Tie as tie
+use Rattle.starts.proofs.PairWalk.{too-large, not-above, rises-on, pairs-end}
+use Rattle.starts.proofs.pairs.Statement.{statement}
+use Rattle.starts.proofs.pairs.Tie as tie
 
 abbrev Inv-loop : tie.InvT-loop
 Inv-loop list least₀ at₀ least at =

@@ -1,8 +1,8 @@
--- `verdicts::turn` meets its promise.
+-- `turns::turn` meets its promise.
 use mathlib.Core.Path.{sym, _∙_}
 use borrow.Author.Needs.{needs}
-use Rattle.verdicts.proofs.turn.Statement.{statement}
-use Rattle.verdicts.proofs.turn.Tie as tie
+use Rattle.turns.proofs.turn.Statement.{statement}
+use Rattle.turns.proofs.turn.Tie as tie
 
 returns : tie.Need-returns
 returns c = rw (sym (c .before .before .turn .ensures) ∙ c .enum-told .given .1)

@@ -1,14 +1,14 @@
--- `verdicts::release` meets its promise.
+-- `turns::release` meets its promise.
 use mathlib.Core.Path.{sym, _∙_}
 use Rattle.answers.specs.Order.{decide}
 use Rattle.counters.specs.Sizes.{base}
 use Rattle.rules.specs.Refusing.{turnRules}
-use Rattle.verdicts.specs.SharedRules.{placeRules}
+use Rattle.turns.specs.SharedRules.{placeRules}
 use Rattle.verdicts.specs.declared.Verdict.the-variants.{Passes, Refuses}
 use Rattle.verdicts.proofs.Saying.{when-passes, when-refuses}
 use borrow.Author.Needs.{needs}
-use Rattle.verdicts.proofs.release.Statement.{statement}
-use Rattle.verdicts.proofs.release.Tie as tie
+use Rattle.turns.proofs.release.Statement.{statement}
+use Rattle.turns.proofs.release.Tie as tie
 
 returns : tie.Need-returns
 returns c =

@@ -1,4 +1,4 @@
--- `verdicts::call` meets its promise.
+-- `turns::call` meets its promise.
 use mathlib.Core.Path.{sym, _∙_}
 use mathlib.Core.List.{_∷_}
 use lib.Dec.{leb}
@@ -7,12 +7,12 @@ use Rattle.answers.specs.Order.{decide, _when_}
 use Rattle.answers.specs.declared.Refusal.the-variants.{BadCall, Doomed}
 use Rattle.counters.specs.Sizes.{base}
 use Rattle.rules.specs.Refusing.{turnRules}
-use Rattle.verdicts.specs.SharedRules.{placeRules}
+use Rattle.turns.specs.SharedRules.{placeRules}
 use Rattle.verdicts.specs.declared.Verdict.the-variants.{Passes, Refuses}
 use Rattle.verdicts.proofs.Saying.{when-passes, when-refuses}
 use borrow.Author.Needs.{needs}
-use Rattle.verdicts.proofs.call.Statement.{statement}
-use Rattle.verdicts.proofs.call.Tie as tie
+use Rattle.turns.proofs.call.Statement.{statement}
+use Rattle.turns.proofs.call.Tie as tie
 
 returns : tie.Need-returns
 returns c =

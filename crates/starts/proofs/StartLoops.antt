@@ -19,11 +19,11 @@ use Rattle.counters.specs.Sizes.{Size}
 use Rattle.objects.specs.Places.{noPair, givenOut, declaredWith}
 use Rattle.objects.specs.declared.Object.{Object}
 use Rattle.objects.specs.declared.Pair.{Pair}
-use Rattle.verdicts.proofs.PairWalk.{pair-first}
+use Rattle.starts.proofs.PairWalk.{pair-first}
 use Rattle.verdicts.proofs.Reaching.{reach-inside}
 use Rattle.verdicts.specs.Verdicts.{answerOf, reachOf, passesOf}
 use Rattle.verdicts.specs.declared.Verdict.{Verdict}
 use Rattle.verdicts.specs.declared.Verdict.the-variants.{Passes, Refuses}
 use Rattle.rules.proofs.Stores.{live-kept}
 use Rattle.rules.proofs.Walking.{each-zero, each-next}
 use Rattle.rules.specs.Effects.{declareOne, declareAll, startEffect}

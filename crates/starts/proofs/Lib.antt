@@ -1,0 +1,2 @@
+pub mod PairWalk
+pub mod StartLoops
