@@ -10,13 +10,13 @@ use Rattle.answers.specs.Order.{pick}
 use Rattle.counters.specs.Sizes.{Size}
 use Rattle.objects.specs.Places.{noPair, ended, restores, restored, spoiledPair}
 use Rattle.objects.specs.declared.Pair.{Pair}
+use Rattle.rules.proofs.Cleared.{clearedTo}
 use Rattle.rules.specs.Tables.{State, objectAt, liveAt, pairAt, withObject, withPair}
 use Rattle.rules.specs.Walks.{eachBelow}
 use Rattle.rules.specs.Effects.{spoilOne, spoilOthers, restoreOne, endOne, endTurn}
 use Rattle.rules.proofs.Picking.{pick-seen}
 use Rattle.rules.proofs.Restored.{hasCalled}
 use Rattle.rules.proofs.Stores.{place-apart, pair-elsewhere}
-use Rattle.starts.proofs.StartLoops.{clearedTo}
 
 -- the turn of an object, and the slot's pair on it zero
 abbrev pub endCleared : Size → Bool → ℕ → ℕ → State → State

@@ -22,11 +22,11 @@ use Rattle.rules.specs.Effects.{endEntries, endFields, endRecord, endTurn, endE
 use Rattle.rules.specs.Steps.{Outcome, unchanged, beside, endStep}
 use Rattle.rules.proofs.Stores.{live-kept}
 use Rattle.rules.proofs.Walking.{each-zero}
-use Rattle.ends.specs.Ends.{recordSeen, rulesSeen, Concluded, conclusionOf}
-use Rattle.ends.specs.declared.Sight.{Sight}
+use Rattle.sights.specs.Sights.{recordSeen, rulesSeen, Concluded, conclusionOf}
+use Rattle.sights.specs.declared.Sight.{Sight}
 use Rattle.verdicts.specs.declared.Verdict.the-variants.{Passes, Refuses}
 use Rattle.verdicts.proofs.Saying.{when-refuses}
-use Rattle.ends.proofs.EndLoops.{Seeing, entriesTo}
+use Rattle.sights.proofs.Seeing.{Seeing, entriesTo}
 use Rattle.ends.proofs.EndClears.{endCleared, cleared-behind}
 use Rattle.ends.proofs.EndTurns.{Ending}
 

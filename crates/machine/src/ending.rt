@@ -8,8 +8,8 @@ use crate::Stepped;
 use crate::Tables;
 use counters::SLOTS;
 use counters::SlotNo;
-use ends::Sight;
 use objects::Pair;
+use sights::Sight;
 
 impl Tables {
     pub fn commit(self, slot: SlotNo, tick: u32, buf: &mut [u8]) -> Stepped

@@ -7,10 +7,15 @@ use Rattle.answers.specs.Order.{pick}
 use Rattle.counters.specs.Sizes.{Size}
 use Rattle.objects.specs.Places.{noPair}
 use Rattle.rules.specs.Tables.{State, pairAt, withPair}
+use Rattle.rules.specs.Walks.{eachBelow}
 use Rattle.rules.specs.Effects.{clearSlot}
 use Rattle.rules.proofs.Picking.{and-false, and-true}
 use Rattle.rules.proofs.Stores.{Sized, pair-after, sized-pair}
 use Rattle.rules.proofs.Walking.{each-keeps, each-sees}
+
+-- the tables with the first entries of a slot zero
+abbrev pub clearedTo : Size → ℕ → ℕ → State → State
+clearedTo z s k t = eachBelow k (λ o u. withPair z u s o noPair) t
 
 module _ (z : Size) (t : State) (s : ℕ) where
   -- the objects, the live marks and the sizes stay

@@ -24,17 +24,13 @@ use Rattle.verdicts.proofs.Reaching.{reach-inside}
 use Rattle.verdicts.specs.Verdicts.{answerOf, reachOf, passesOf}
 use Rattle.verdicts.specs.declared.Verdict.{Verdict}
 use Rattle.verdicts.specs.declared.Verdict.the-variants.{Passes, Refuses}
+use Rattle.rules.proofs.Cleared.{clearedTo}
 use Rattle.rules.proofs.Stores.{live-kept}
 use Rattle.rules.proofs.Walking.{each-zero, each-next}
 use Rattle.rules.specs.Effects.{declareOne, declareAll, startEffect}
 use Rattle.rules.specs.Refusing.{pairRules, startRules}
 use Rattle.rules.specs.Steps.{Stepping, unchanged, startStep}
 use Rattle.rules.specs.Tables.{State, objectAt, liveAt, withObject, withLive, withPair}
-use Rattle.rules.specs.Walks.{eachBelow}
-
--- the tables with the first entries of a slot zero
-abbrev pub clearedTo : Size → ℕ → ℕ → State → State
-clearedTo z s k t = eachBelow k (λ o u. withPair z u s o noPair) t
 
 -- what the first loop keeps: the entries that it has passed are zero
 pub record Clearing (z : Size) (s reach at : ℕ) (t₀ t : State) : Type 0 where

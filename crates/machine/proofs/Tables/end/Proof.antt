@@ -7,8 +7,9 @@ use native.Mathlib.Nat.{le-refl, mod-eq-of-lt}
 use Rattle.counters.specs.Sizes.{base}
 use Rattle.rules.specs.Tables.{withObject, liveAt}
 use Rattle.rules.proofs.Stores.{Sized}
-use Rattle.ends.specs.Ends.{concluded}
-use Rattle.ends.proofs.EndLoops.{Seeing, sees-first, sees-on, Spoiling, spoils-on}
+use Rattle.sights.specs.Sights.{concluded}
+use Rattle.sights.proofs.Seeing.{Seeing, sees-first, sees-on}
+use Rattle.ends.proofs.EndLoops.{Spoiling, spoils-on}
 use Rattle.ends.proofs.EndTurns.{Ending, ends-first, spoils-first, ends-on}
 use Rattle.ends.proofs.EndStep.{conclusion-inside, end-step}
 use Rattle.machine.specs.Views.{view}

@@ -1,4 +1,4 @@
--- `ends::concluding::verdict` meets its promise.
+-- `sights::concluding::verdict` meets its promise.
 use Prim.Native.Nat.{ℕ}
 use mathlib.Core.Bool.{Bool, true, false, not}
 use mathlib.Core.Path.{_≡_}
@@ -10,8 +10,8 @@ use Rattle.counters.specs.Sizes.{base}
 use Rattle.rules.specs.Refusing.{endRules}
 use Rattle.verdicts.specs.declared.Verdict.the-variants.{Passes, Refuses}
 use borrow.Author.Needs.{needs}
-use Rattle.ends.proofs.concluding.verdict.Statement.{statement}
-use Rattle.ends.proofs.concluding.verdict.Tie as tie
+use Rattle.sights.proofs.concluding.verdict.Statement.{statement}
+use Rattle.sights.proofs.concluding.verdict.Tie as tie
 
 -- the first two rules are those of a commit and of a rollback
 bad-slot : (rollback live doomed unmet short : Bool) (slot : ℕ) → leb (base .slots) slot ≡ true

@@ -1,14 +1,14 @@
--- `ends::Sight::look` meets its promise.
+-- `sights::Sight::look` meets its promise.
 use mathlib.Core.Bool.{Bool, false, _||_}
 use mathlib.Core.Path.{_≡_, ap, _∙_}
 use lib.ListN.{length}
 use borrow.Author.Tests.{lt-leb, not-true, not-false}
-use Rattle.ends.specs.Ends.{entered}
+use Rattle.sights.specs.Sights.{entered}
 use Rattle.rules.proofs.Picking.{and-false}
-use Rattle.ends.proofs.Entering.{no-entry, with-entry}
+use Rattle.sights.proofs.Entering.{no-entry, with-entry}
 use borrow.Author.Needs.{needs}
-use Rattle.ends.proofs.Sight.look.Statement.{statement}
-use Rattle.ends.proofs.Sight.look.Tie as tie
+use Rattle.sights.proofs.Sight.look.Statement.{statement}
+use Rattle.sights.proofs.Sight.look.Tie as tie
 
 long : (c : tie.Start) → length (c .args .t1 .entries) ≡ 120
 long c = search needs

@@ -3,8 +3,8 @@ use Prim.Native.Nat.{ℕ}
 use mathlib.Core.List.{List}
 use mathlib.Core.Path.{_≡_, ap}
 use Rattle.answers.proofs.Tells.{reply-tells}
-use Rattle.ends.specs.Ends.{Concluded, concluded}
-use Rattle.ends.specs.declared.concluding.Conclusion.{Conclusion}
+use Rattle.sights.specs.Sights.{Concluded, concluded}
+use Rattle.sights.specs.declared.concluding.Conclusion.{Conclusion}
 
 pub concluded-tells : (r other : Conclusion) (left right : List ℕ) → concluded r left ≡ concluded other right → (r ≡ other) × (left ≡ right)
 concluded-tells r other left right e = (

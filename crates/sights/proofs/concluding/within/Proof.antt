@@ -1,7 +1,7 @@
--- `ends::concluding::within` meets its promise.
+-- `sights::concluding::within` meets its promise.
 use borrow.Author.Tests.{lt-ltb, le-ltb}
-use Rattle.ends.proofs.concluding.within.Statement.{statement}
-use Rattle.ends.proofs.concluding.within.Tie as tie
+use Rattle.sights.proofs.concluding.within.Statement.{statement}
+use Rattle.sights.proofs.concluding.within.Tie as tie
 
 returns : tie.Need-returns
 returns c = rw (lt-ltb _ _ (c .if1 .taken))

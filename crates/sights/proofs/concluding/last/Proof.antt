@@ -1,6 +1,6 @@
--- `ends::concluding::last` meets its promise.
-use Rattle.ends.proofs.concluding.last.Statement.{statement}
-use Rattle.ends.proofs.concluding.last.Tie as tie
+-- `sights::concluding::last` meets its promise.
+use Rattle.sights.proofs.concluding.last.Statement.{statement}
+use Rattle.sights.proofs.concluding.last.Tie as tie
 
 returns : tie.Need-returns
 returns c = simp (c .if1 .taken)

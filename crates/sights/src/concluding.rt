@@ -6,7 +6,7 @@ ghost use Rattle.answers.specs.declared.Refusal.the-variants.{Wait, NoRoom};
 ghost use Rattle.counters.specs.Sizes.{base};
 ghost use Rattle.rules.specs.Refusing.{endRules};
 ghost use Rattle.rules.specs.Effects.{endFields};
-ghost use Rattle.ends.specs.Ends.{entryBytes, concluded, conclusionOf};
+ghost use Rattle.sights.specs.Sights.{entryBytes, concluded, conclusionOf};
 ghost use Rattle.verdicts.specs.declared.Verdict.the-variants.{Passes, Refuses};
 use crate::Sight;
 use answers::Answer;

@@ -11,8 +11,8 @@ use borrow.Author.Tests.{le-leb}
 use Rattle.objects.specs.declared.Object.{Object}
 use Rattle.objects.specs.declared.Pair.{Pair}
 use Rattle.rules.specs.Refusing.{misses}
-use Rattle.ends.specs.Ends.{entered, seen}
-use Rattle.ends.specs.declared.Sight.{Sight}
+use Rattle.sights.specs.Sights.{entered, seen}
+use Rattle.sights.specs.declared.Sight.{Sight}
 
 -- an entry's bytes
 abbrev fiveBytes : ℕ → ℕ → List ℕ

@@ -1,4 +1,4 @@
--- `ends::Sight::conclude` meets its promise.
+-- `sights::Sight::conclude` meets its promise.
 use Prim.Native.Nat.{_≤_}
 use mathlib.Core.Path.{_≡_, sym, ap, _∙_}
 use native.Mathlib.Omega.{arith}
@@ -7,10 +7,10 @@ use lib.Seq.{length-take-le}
 use Rattle.counters.specs.Sizes.{base}
 use Rattle.layout.specs.Writing.{placing}
 use Rattle.layout.specs.declared.fields.Fields.{Fields}
-use Rattle.ends.proofs.Conclusions.{inside, concludes, refuses}
+use Rattle.sights.proofs.Conclusions.{inside, concludes, refuses}
 use borrow.Author.Needs.{needs}
-use Rattle.ends.proofs.Sight.conclude.Statement.{statement}
-use Rattle.ends.proofs.Sight.conclude.Tie as tie
+use Rattle.sights.proofs.Sight.conclude.Statement.{statement}
+use Rattle.sights.proofs.Sight.conclude.Tie as tie
 
 long : (c : tie.Start) → length (c .args .self .entries) ≡ 120
 long c = search needs

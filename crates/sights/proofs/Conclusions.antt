@@ -24,8 +24,8 @@ use Rattle.rules.specs.Effects.{endFields}
 use Rattle.verdicts.specs.declared.Verdict.{Verdict}
 use Rattle.verdicts.specs.declared.Verdict.the-variants.{Passes, Refuses}
 use Rattle.verdicts.proofs.Saying.{when-passes, when-refuses}
-use Rattle.ends.specs.Ends.{entryBytes, recordSeen, rulesSeen, Concluded, conclusionOf}
-use Rattle.ends.specs.declared.Sight.{Sight}
+use Rattle.sights.specs.Sights.{entryBytes, recordSeen, rulesSeen, Concluded, conclusionOf}
+use Rattle.sights.specs.declared.Sight.{Sight}
 
 -- the head of an end's record, whichever end it is
 end-length : (rollback : Bool) (tick slot : ℕ) (list : List ℕ) → length (recordOf (endFields rollback tick slot) list) ≡ 10 + length list

@@ -1,8 +1,8 @@
--- `ends::misses` meets its promise.
+-- `sights::misses` meets its promise.
 use borrow.Author.Needs.{needs}
 use borrow.Author.Tests.{not-true, not-false}
-use Rattle.ends.proofs.misses.Statement.{statement}
-use Rattle.ends.proofs.misses.Tie as tie
+use Rattle.sights.proofs.misses.Statement.{statement}
+use Rattle.sights.proofs.misses.Tie as tie
 
 returns : tie.Need-returns
 returns c = rw (not-true (c .before .before .args .pair .declared) (c .if1 .taken))

@@ -1,6 +1,6 @@
--- `ends::concluding::fields` meets its promise.
-use Rattle.ends.proofs.concluding.fields.Statement.{statement}
-use Rattle.ends.proofs.concluding.fields.Tie as tie
+-- `sights::concluding::fields` meets its promise.
+use Rattle.sights.proofs.concluding.fields.Statement.{statement}
+use Rattle.sights.proofs.concluding.fields.Tie as tie
 
 returns : tie.Need-returns
 returns c = rw (c .if1 .taken)

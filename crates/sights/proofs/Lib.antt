@@ -1,0 +1,4 @@
+pub mod Entering
+pub mod Conclusions
+pub mod Seeing
+pub mod Unique
