@@ -1,4 +1,3 @@
 pub mod EndLoops
 pub mod EndClears
 pub mod EndTurns
-pub mod EndStep

@@ -1,3 +1,4 @@
 pub mod Digits
 pub mod Making
 pub mod Moving
+pub mod Unique

@@ -11,7 +11,7 @@ use Rattle.sights.specs.Sights.{concluded}
 use Rattle.sights.proofs.Seeing.{Seeing, sees-first, sees-on}
 use Rattle.ends.proofs.EndLoops.{Spoiling, spoils-on}
 use Rattle.ends.proofs.EndTurns.{Ending, ends-first, spoils-first, ends-on}
-use Rattle.ends.proofs.EndStep.{conclusion-inside, end-step}
+use Rattle.machine.proofs.EndStep.{conclusion-inside, end-step}
 use Rattle.machine.specs.Views.{view}
 use borrow.Author.Needs.{needs}
 use Rattle.machine.proofs.Tables.end.Statement.{statement}
