@@ -6,10 +6,9 @@ use objects::Object;
 use objects::Pair;
 
 // The kind acts, and at the supremum the object is let go.
-pub fn object(object: Object, pair: Pair, kind: u8, argument: u32) -> Object
+pub fn object(object: Object, pair: Pair, word: u32) -> Object
     ensures { λ r. ⌜ r ≡ calledObject kind argument pair object ⌝ }
 {
-    let word = kinds::act(kind, object.word, argument).word;
     let global = object.global;
     let terminal = object.terminal;
     if reaches(pair) {

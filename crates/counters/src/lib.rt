@@ -9,6 +9,12 @@ pub const SLOTS: u8 = 16;
 
 pub const OBJECTS: u8 = 24;
 
+// How many slots and how many objects a pump has: the parameter of every step.
+pub struct Size {
+    pub slots: u8,
+    pub objects: u8,
+}
+
 // A version: 32 bits, and it wraps.
 pub struct Version(pub u32);
 

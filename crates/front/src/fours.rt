@@ -12,11 +12,11 @@ use layout::fields::shape_of;
 pub struct Four(pub u8, pub u8, pub u8, pub u8);
 
 // Length and kind, in front of a body with a list of so many bytes.
-pub fn frame(fields: Fields, bytes: u8) -> Four
+pub fn frame(fields: Fields, bytes: u16) -> Four
     ensures { λ r. ⌜ inOrder r ≡ halfBytes (shapeOf (kindOfFields fields) .head + bytes) ++ halfBytes (shapeOf (kindOfFields fields) .number) ⌝ }
 {
     let shape = shape_of(fields);
-    let length = shape.head as u16 + bytes as u16;
+    let length = shape.head as u16 + bytes;
     let number = shape.number;
     Four(
         (length % 256) as u8,

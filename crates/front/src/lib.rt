@@ -9,13 +9,13 @@ mod heads;
 use layout::fields::Fields;
 
 // The front for a list of so many bytes, and zeros behind it: a frame has 4 bytes and the longest head 8.
-pub fn front(fields: Fields, bytes: u8) -> [u8; 12]
+pub fn front(fields: Fields, bytes: u16) -> [u8; 12]
     ensures { λ r. ⌜ r ≡ filled 12 (frontOf fields bytes) ⌝ }
 {
     let frame = fours::frame(fields, bytes);
     match fields {
         Fields::Fresh { first } => heads::fresh(frame, first),
-        Fields::Start { slot } => heads::two(frame, slot.0, bytes / 2),
+        Fields::Start { slot } => heads::two(frame, slot.0, (bytes / 2 % 256) as u8),
         Fields::Call {
             slot,
             object,
@@ -25,7 +25,17 @@ pub fn front(fields: Fields, bytes: u8) -> [u8; 12]
         Fields::Release { slot, object } => heads::two(frame, slot.0, object.0),
         Fields::Commit { slot, tick } => heads::end(frame, slot, tick),
         Fields::Rollback { slot, tick } => heads::end(frame, slot, tick),
-        Fields::Committed { tick, slot } => heads::ended(frame, tick, slot, bytes / 5),
-        Fields::RolledBack { tick, slot } => heads::ended(frame, tick, slot, bytes / 5),
+        Fields::Committed { tick, slot } => heads::ended(
+            frame,
+            tick,
+            slot,
+            (bytes / 5 % 256) as u8,
+        ),
+        Fields::RolledBack { tick, slot } => heads::ended(
+            frame,
+            tick,
+            slot,
+            (bytes / 5 % 256) as u8,
+        ),
     }
 }

@@ -1,10 +1,8 @@
 // One object and one pair, and what each event but a call does to one place: the leaves that every step is made of.
 
 ghost use mathlib.Core.Path.{_≡_};
-ghost use Rattle.counters.specs.Sizes.{base};
 ghost use Rattle.objects.specs.Places.{turnOf, givenOut, letGo, ended, restored, restores, declaredWith, spoiledPair, noPair};
 use counters::CallCount;
-use counters::SLOTS;
 use counters::Turn;
 use counters::Version;
 
@@ -58,13 +56,13 @@ impl Object {
     }
 
     // Let go unless d says Released, and the terminal version becomes the private version.
-    pub fn end(self, pair: Pair) -> Object
-        ensures { λ r. ⌜ r ≡ ended (base .slots) pair self ⌝ }
+    pub fn end(self, pair: Pair, slots: u8) -> Object
+        ensures { λ r. ⌜ r ≡ ended slots pair self ⌝ }
     {
         let private = pair.private;
         let global = self.global;
         let local = self.local;
-        match pair.turn(self) {
+        match pair.turn(self, slots) {
             Turn::Now => Object {
                 word: self.word,
                 global,
@@ -133,11 +131,11 @@ impl Pair {
         }
     }
 
-    pub fn turn(self, object: Object) -> Turn
-        ensures { λ r. ⌜ r ≡ turnOf (base .slots) self object ⌝ }
+    pub fn turn(self, object: Object, slots: u8) -> Turn
+        ensures { λ r. ⌜ r ≡ turnOf slots self object ⌝ }
     {
         let local = object.local;
-        self.private.turn(local, SLOTS)
+        self.private.turn(local, slots)
     }
 
     // Whether a rollback puts the saved word back.

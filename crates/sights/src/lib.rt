@@ -1,67 +1,94 @@
-// What an end sees of its slot's objects, and what it comes to then.
-ghost use mathlib.Core.Path.{_≡_};
-ghost use Rattle.rules.specs.Refusing.{misses};
-ghost use Rattle.sights.specs.Sights.{noSight, seen};
-
-pub mod concluding;
-
+// What an end sees of its slot's objects, and what its rules say of that.
+use answers::Refusal;
+use counters::Size;
+use counters::SlotNo;
+use layout::fields::Fields;
 use objects::Object;
 use objects::Pair;
+use verdicts::Verdict;
 use verdicts::either;
 
-// Whether the slot is doomed, whether a terminal need is not met, and the entries of the record, so far.
+// Whether the slot is doomed, whether a terminal need is not met, and how many bytes the entries of the record have, so far.
 pub struct Sight {
     pub doomed: bool,
     pub unmet: bool,
-    pub bytes: usize,
-    pub entries: [u8; 120],
+    pub bytes: u16,
 }
 
 impl Sight {
     // Before the first object.
-    pub fn none() -> Sight
-        ensures { λ r. ⌜ r ≡ noSight ⌝ }
-    {
+    pub fn none() -> Sight {
         Sight {
             doomed: false,
             unmet: false,
             bytes: 0,
-            entries: [0; 120],
         }
     }
 
     // With one object more. An object that is not declared has no entry.
-    pub fn look(mut self, number: u8, pair: Pair, object: Object) -> Sight
-        ensures { λ r. ⌜ r ≡ seen number pair object self ⌝ }
-    {
-        self.doomed = either(self.doomed, pair.spoiled);
-        self.unmet = either(self.unmet, misses(pair, object));
-        let at = self.bytes;
-        if !pair.declared {
-            return self;
+    pub fn look(self, pair: Pair, object: Object) -> Sight {
+        Sight {
+            doomed: either(self.doomed, pair.spoiled),
+            unmet: either(self.unmet, misses(pair, object)),
+            bytes: self.bytes + entry_bytes(pair),
         }
-        if 115 < at {
-            return self;
-        }
-        let private = pair.private;
-        let version = private.0;
-        self.entries[at] = number;
-        self.entries[at + 1] = (version % 256) as u8;
-        self.entries[at + 2] = (version / 256 % 256) as u8;
-        self.entries[at + 3] = (version / 256 / 256 % 256) as u8;
-        self.entries[at + 4] = (version / 256 / 256 / 256 % 256) as u8;
-        self.bytes = at + 5;
-        self
     }
 }
 
+fn entry_bytes(pair: Pair) -> u16 {
+    if pair.declared {
+        return 5;
+    }
+    0
+}
+
 // Whether the object is declared and does not meet its terminal need.
-fn misses(pair: Pair, object: Object) -> bool
-    ensures { λ r. ⌜ r ≡ misses pair object ⌝ }
-{
+fn misses(pair: Pair, object: Object) -> bool {
     if !pair.declared {
         return false;
     }
     let terminal = object.terminal;
     !pair.private.meets_terminal_need(terminal)
+}
+
+// Commit: 1, 5, 9, 10, 11. Rollback: 1, 5, 10, 11.
+pub fn verdict(
+    size: Size,
+    slot: SlotNo,
+    rollback: bool,
+    live: bool,
+    sight: Sight,
+    short: bool,
+) -> Verdict {
+    if size.slots <= slot.0 {
+        return Verdict::Refuses(Refusal::BadSlot);
+    }
+    if !live {
+        return Verdict::Refuses(Refusal::Idle);
+    }
+    if rollback {
+        return last(sight.unmet, short);
+    }
+    if sight.doomed {
+        return Verdict::Refuses(Refusal::Doomed);
+    }
+    last(sight.unmet, short)
+}
+
+// The last rules of both: 10, 11.
+fn last(unmet: bool, short: bool) -> Verdict {
+    if unmet {
+        return Verdict::Refuses(Refusal::Wait);
+    }
+    if short {
+        return Verdict::Refuses(Refusal::NoRoom);
+    }
+    Verdict::Passes
+}
+
+pub fn fields(rollback: bool, tick: u32, slot: SlotNo) -> Fields {
+    if rollback {
+        return Fields::RolledBack { tick, slot };
+    }
+    Fields::Committed { tick, slot }
 }

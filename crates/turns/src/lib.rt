@@ -1,14 +1,12 @@
 // What the rules of a call and of a release say: whether there is such a pair, and whether it is its turn.
 ghost use mathlib.Core.Path.{_≡_};
 ghost use Rattle.answers.specs.Order.{decide};
-ghost use Rattle.counters.specs.Sizes.{base};
 ghost use Rattle.rules.specs.Refusing.{callRules, releaseRules, turnRules};
 ghost use Rattle.turns.specs.SharedRules.{placeRules};
 ghost use Rattle.verdicts.specs.declared.Verdict.the-variants.{Passes, Refuses};
 use answers::Refusal;
-use counters::OBJECTS;
 use counters::ObjectNo;
-use counters::SLOTS;
+use counters::Size;
 use counters::SlotNo;
 use counters::Turn;
 use objects::Object;
@@ -17,6 +15,7 @@ use verdicts::Verdict;
 
 // Call: 1, 5, 2, 6, 7, 9, 8, 10.
 pub fn call(
+    size: Size,
     slot: SlotNo,
     number: ObjectNo,
     kind: u8,
@@ -25,9 +24,9 @@ pub fn call(
     pair: Pair,
     object: Object,
 ) -> Verdict
-    ensures { λ r. ⌜ r ≡ decide (callRules base (slot .0) (number .0) kind live doomed pair object) Refuses Passes ⌝ }
+    ensures { λ r. ⌜ r ≡ decide (callRules size (slot .0) (number .0) kind live doomed pair object) Refuses Passes ⌝ }
 {
-    match place(slot, number, live, pair) {
+    match place(size, slot, number, live, pair) {
         Verdict::Refuses(refusal) => Verdict::Refuses(refusal),
         Verdict::Passes => {
             if 4 <= kind {
@@ -36,32 +35,39 @@ pub fn call(
             if doomed {
                 return Verdict::Refuses(Refusal::Doomed);
             }
-            turn(pair, object)
+            turn(size, pair, object)
         }
     }
 }
 
 // Release: 1, 5, 2, 6, 8, 10.
-pub fn release(slot: SlotNo, number: ObjectNo, live: bool, pair: Pair, object: Object) -> Verdict
-    ensures { λ r. ⌜ r ≡ decide (releaseRules base (slot .0) (number .0) live pair object) Refuses Passes ⌝ }
+pub fn release(
+    size: Size,
+    slot: SlotNo,
+    number: ObjectNo,
+    live: bool,
+    pair: Pair,
+    object: Object,
+) -> Verdict
+    ensures { λ r. ⌜ r ≡ decide (releaseRules size (slot .0) (number .0) live pair object) Refuses Passes ⌝ }
 {
-    match place(slot, number, live, pair) {
+    match place(size, slot, number, live, pair) {
         Verdict::Refuses(refusal) => Verdict::Refuses(refusal),
-        Verdict::Passes => turn(pair, object),
+        Verdict::Passes => turn(size, pair, object),
     }
 }
 
 // Whether there is such a pair: 1, 5, 2, 6.
-fn place(slot: SlotNo, number: ObjectNo, live: bool, pair: Pair) -> Verdict
-    ensures { λ r. ⌜ r ≡ decide (placeRules base (slot .0) (number .0) live pair) Refuses Passes ⌝ }
+fn place(size: Size, slot: SlotNo, number: ObjectNo, live: bool, pair: Pair) -> Verdict
+    ensures { λ r. ⌜ r ≡ decide (placeRules size (slot .0) (number .0) live pair) Refuses Passes ⌝ }
 {
-    if SLOTS <= slot.0 {
+    if size.slots <= slot.0 {
         return Verdict::Refuses(Refusal::BadSlot);
     }
     if !live {
         return Verdict::Refuses(Refusal::Idle);
     }
-    if OBJECTS <= number.0 {
+    if size.objects <= number.0 {
         return Verdict::Refuses(Refusal::BadObject);
     }
     if !pair.declared {
@@ -71,10 +77,10 @@ fn place(slot: SlotNo, number: ObjectNo, live: bool, pair: Pair) -> Verdict
 }
 
 // Whether it is its turn: 8, 10.
-fn turn(pair: Pair, object: Object) -> Verdict
-    ensures { λ r. ⌜ r ≡ decide (turnRules base pair object) Refuses Passes ⌝ }
+fn turn(size: Size, pair: Pair, object: Object) -> Verdict
+    ensures { λ r. ⌜ r ≡ decide (turnRules size pair object) Refuses Passes ⌝ }
 {
-    match pair.turn(object) {
+    match pair.turn(object, size.slots) {
         Turn::Now => Verdict::Passes,
         Turn::Wait => Verdict::Refuses(Refusal::Wait),
         Turn::Released => Verdict::Refuses(Refusal::Released),

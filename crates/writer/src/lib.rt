@@ -45,7 +45,7 @@ fn put(fields: Fields, list: &[u8], buf: &mut [u8])
     requires { ⌜ length (recordOf fields (now list)) ≤ length (now buf) ⌝ }
     ensures { λ _. ⌜ now (buf .exit) ≡ recordOf fields (now (list .entry)) ++ drop (length (recordOf fields (now (list .entry)))) (now (buf .entry)) ⌝ }
 {
-    let front = front::front(fields, list.len() as u8);
+    let front = front::front(fields, list.len() as u16);
     let length = 4 + shape_of(fields).head as usize;
     bytes::copy(&front[..length], buf);
     bytes::copy(list, &mut buf[length..]);

@@ -20,14 +20,14 @@ returns-4 c =
 
 returns-5 : tie.Need-returns-5
 returns-5 c =
-    let slot-and-live = c .before .before .before in
-    simp (lt-leb _ _ (slot-and-live .before .if1 .left), slot-and-live .if2 .left, ne-eqb _ _ (c .before .before .if3 .left), ne-eqb _ _ (c .before .if4 .left), lt-ltb _ _ (c .if5 .taken))
+    let slot-and-live = c .before .before .before .before in
+    simp (lt-leb _ _ (slot-and-live .before .if1 .left), slot-and-live .if2 .left, ne-eqb _ _ (c .before .before .before .if3 .left), ne-eqb _ _ (c .before .before .if4 .left), lt-ltb _ _ (c .if5 .taken))
 
 returns-6 : tie.Need-returns-6
 returns-6 c =
     let list = c .before in
-    let slot-and-live = list .before .before .before in
-    simp (lt-leb _ _ (slot-and-live .before .if1 .left), slot-and-live .if2 .left, ne-eqb _ _ (list .before .before .if3 .left), ne-eqb _ _ (list .before .if4 .left), le-ltb _ _ (list .if5 .left))
+    let slot-and-live = list .before .before .before .before in
+    simp (lt-leb _ _ (slot-and-live .before .if1 .left), slot-and-live .if2 .left, ne-eqb _ _ (list .before .before .before .if3 .left), ne-eqb _ _ (list .before .before .if4 .left), le-ltb _ _ (list .if5 .left))
     (c .pairs .ensures)
 
 pub verdict-spec : {M : Type 1} → statement M

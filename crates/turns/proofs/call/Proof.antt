@@ -5,7 +5,6 @@ use lib.Dec.{leb}
 use borrow.Author.Tests.{le-leb, lt-leb}
 use Rattle.answers.specs.Order.{decide, _when_}
 use Rattle.answers.specs.declared.Refusal.the-variants.{BadCall, Doomed}
-use Rattle.counters.specs.Sizes.{base}
 use Rattle.rules.specs.Refusing.{turnRules}
 use Rattle.turns.specs.SharedRules.{placeRules}
 use Rattle.verdicts.specs.declared.Verdict.the-variants.{Passes, Refuses}
@@ -19,21 +18,21 @@ returns c =
     let told = c .before in
     let placed = told .before .before in
     let a = placed .before .args in
-    sym (when-passes (placeRules base (a .slot .0) (a .number .0) (a .live) (a .pair)) (sym (placed .place .ensures) ∙ told .enum-told .given .1) Refuses (decide (BadCall when leb 4 (a .kind) ∷ Doomed when a .doomed ∷ turnRules base (a .pair) (a .object)) Refuses Passes) ∙ simp (le-leb _ _ (c .if1 .taken)))
+    sym (when-passes (placeRules (a .size) (a .slot .0) (a .number .0) (a .live) (a .pair)) (sym (placed .place .ensures) ∙ told .enum-told .given .1) Refuses (decide (BadCall when leb 4 (a .kind) ∷ Doomed when a .doomed ∷ turnRules (a .size) (a .pair) (a .object)) Refuses Passes) ∙ simp (le-leb _ _ (c .if1 .taken)))
 
 returns-2 : tie.Need-returns-2
 returns-2 c =
     let told = c .before .before in
     let placed = told .before .before in
     let a = placed .before .args in
-    sym (when-passes (placeRules base (a .slot .0) (a .number .0) (a .live) (a .pair)) (sym (placed .place .ensures) ∙ told .enum-told .given .1) Refuses (decide (BadCall when leb 4 (a .kind) ∷ Doomed when a .doomed ∷ turnRules base (a .pair) (a .object)) Refuses Passes) ∙ simp (lt-leb _ _ (c .before .if1 .left), c .if2 .taken))
+    sym (when-passes (placeRules (a .size) (a .slot .0) (a .number .0) (a .live) (a .pair)) (sym (placed .place .ensures) ∙ told .enum-told .given .1) Refuses (decide (BadCall when leb 4 (a .kind) ∷ Doomed when a .doomed ∷ turnRules (a .size) (a .pair) (a .object)) Refuses Passes) ∙ simp (lt-leb _ _ (c .before .if1 .left), c .if2 .taken))
 
 returns-3 : tie.Need-returns-3
 returns-3 c =
     let told = c .before in
     let placed = told .before .before in
     let a = placed .before .args in
-    sym (when-refuses (placeRules base (a .slot .0) (a .number .0) (a .live) (a .pair)) (told .refusal .given .0 .0) (sym (placed .place .ensures) ∙ told .refusal .given .1) Refuses (decide (BadCall when leb 4 (a .kind) ∷ Doomed when a .doomed ∷ turnRules base (a .pair) (a .object)) Refuses Passes))
+    sym (when-refuses (placeRules (a .size) (a .slot .0) (a .number .0) (a .live) (a .pair)) (told .refusal .given .0 .0) (sym (placed .place .ensures) ∙ told .refusal .given .1) Refuses (decide (BadCall when leb 4 (a .kind) ∷ Doomed when a .doomed ∷ turnRules (a .size) (a .pair) (a .object)) Refuses Passes))
 
 returns-4 : tie.Need-returns-4
 returns-4 c =
@@ -41,7 +40,7 @@ returns-4 c =
     let placed = told .before .before in
     let a = placed .before .args in
     c .turn .ensures
-    ∙ sym (when-passes (placeRules base (a .slot .0) (a .number .0) (a .live) (a .pair)) (sym (placed .place .ensures) ∙ told .enum-told .given .1) Refuses (decide (BadCall when leb 4 (a .kind) ∷ Doomed when a .doomed ∷ turnRules base (a .pair) (a .object)) Refuses Passes) ∙ simp (lt-leb _ _ (c .before .before .if1 .left), c .before .if2 .left))
+    ∙ sym (when-passes (placeRules (a .size) (a .slot .0) (a .number .0) (a .live) (a .pair)) (sym (placed .place .ensures) ∙ told .enum-told .given .1) Refuses (decide (BadCall when leb 4 (a .kind) ∷ Doomed when a .doomed ∷ turnRules (a .size) (a .pair) (a .object)) Refuses Passes) ∙ simp (lt-leb _ _ (c .before .before .if1 .left), c .before .if2 .left))
 
 pub call-spec : {M : Type 1} → statement M
 call-spec =

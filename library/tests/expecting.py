@@ -1,0 +1,74 @@
+"""What a session leaves behind, from its accepted events alone: the bytes of its ends, and at last its tables."""
+import struct
+from typing import Dict, Iterator, List
+
+from people.answers import ACCEPTED
+from people.following import VERSIONS, Claim, Followed
+from people.layout import OBJECTS, SLOTS, Call, Commit, Committed, End, RolledBack
+from people.playing import pair
+from people.reading import read_record
+
+
+def act(call: Call, word: int) -> int:
+    """The word after a call: read, write, add, spend."""
+    spent = word - call.argument if word >= call.argument else word
+    return (word, call.argument, (word + call.argument) % VERSIONS, spent)[call.call_kind]
+
+
+class Left:
+    """The tables that accepted events leave, beside what is followed of them: the words and the saved words."""
+
+    def __init__(self, first_version: int, words: List[int]):
+        self.followed = Followed(first_version)
+        self.words = words
+        self.saved: Dict[Claim, int] = {}
+
+    def accept(self, event) -> List[Claim]:
+        """Takes an accepted event, and gives the claims that it was about."""
+        if isinstance(event, Call):
+            claim, word = self.followed.claim(event.slot, event.object_number), self.words[event.object_number]
+            self.saved.setdefault(claim, word)
+            self.words[event.object_number] = act(event, word)
+        effect = self.followed.accept(event)
+        for claim in effect.restored:
+            self.words[claim.object_number] = self.saved[claim]
+        return effect.claims
+
+    def version(self, place: int) -> int:
+        return (self.followed.first_version + place) % VERSIONS
+
+    def tables(self) -> Iterator[str]:
+        for number, word in enumerate(self.words):
+            places = [places[number] for places in (self.followed.given, self.followed.let_go, self.followed.ended)]
+            yield f"object {number}: {word} " + " ".join(str(self.version(place)) for place in places)
+        for slot in range(SLOTS):
+            for number in range(OBJECTS):
+                if slot in self.followed.live:
+                    yield f"pair {slot} {number}: " + " ".join(map(str, self.pair(slot, number)))
+
+    def pair(self, slot: int, number: int) -> List[int]:
+        claim = self.followed.claim(slot, number)
+        if claim is None:
+            return [1, 0, 0, 0, 0, 0, 0, 0]
+        saved = self.saved.get(claim, 0)
+        return [1, 1, claim.supremum, claim.version, claim.count, int(claim.called), int(claim.spoiled), saved]
+
+
+def end_record(end: End, claims: List[Claim]) -> str:
+    kind = (Committed if isinstance(end, Commit) else RolledBack).KIND
+    entries = [struct.pack("<BI", claim.object_number, claim.version) for claim in claims]
+    body = struct.pack("<IBB", end.tick, end.slot, len(entries)) + b"".join(entries)
+    return (struct.pack("<HH", len(body), kind) + body).hex(" ").upper()
+
+
+def left_behind(records: bytes, lines: List[str]) -> List[str]:
+    """The ends and the tables in the words of the players; nothing where the session does not begin."""
+    played = pair(records, lines)
+    if lines and played.steps[0].number == 0:
+        return []
+    left, said = Left(played.first_version, list(read_record(records).words)), []
+    for step in played.steps:
+        if step.answer == ACCEPTED:
+            claims = left.accept(step.content)
+            said += [end_record(step.content, claims)] if isinstance(step.content, End) else []
+    return said + list(left.tables())

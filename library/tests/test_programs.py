@@ -1,0 +1,33 @@
+"""Tests by programs that check themselves: limits and layout in C, the wrapper's own tests, and the example."""
+import os
+import subprocess
+import unittest
+
+from library.tests.programs import EXAMPLES, FOLDER, MADE, WRAPPER, cargo, in_c
+
+
+class Programs(unittest.TestCase):
+    def ends_well(self, program):
+        ended = subprocess.run([program], stdout=subprocess.PIPE, universal_newlines=True)
+        self.assertEqual(ended.returncode, 0, ended.stdout)
+        return ended.stdout
+
+    def test_limits(self):
+        self.assertRegex(self.ends_well(in_c(FOLDER / "limits.c")), r"^\d+ checks, 0 failed\n$")
+
+    def test_places_of_the_tables(self):
+        self.assertRegex(self.ends_well(in_c(FOLDER / "layout.c")), r"^\d+ checks, 0 failed\n$")
+
+    def test_wrapper(self):
+        cargo("test", WRAPPER, MADE / "rust")
+
+    def test_wrapper_says_what_is_missing(self):
+        settings = {name: value for name, value in os.environ.items() if name != "GUSTLANTERN_LIBRARY"}
+        words = ["cargo", "build", "--offline", "--manifest-path", str(WRAPPER / "Cargo.toml"), "--target-dir", str(MADE / "without")]
+        ended = subprocess.run(words, env=settings, stdout=subprocess.PIPE, stderr=subprocess.STDOUT, universal_newlines=True)
+        self.assertNotEqual(ended.returncode, 0)
+        self.assertIn("GUSTLANTERN_LIBRARY is not set", ended.stdout)
+
+    def test_example(self):
+        printed = self.ends_well(in_c(EXAMPLES / "pump.c"))
+        self.assertEqual(printed, (EXAMPLES / "pump.expected").read_text(encoding="utf-8"))

@@ -1,0 +1,42 @@
+"""Tests of whole sessions: by record and by fields, in C and in Rust, against lines by hand and those of the reference."""
+import subprocess
+import tempfile
+import unittest
+from pathlib import Path
+
+from library.tests.expecting import left_behind
+from library.tests.programs import play, players, reference
+from people.checking import SESSIONS, names
+from people.composing import compose
+
+SEED = 16
+RANDOM_SESSIONS = 300
+# NoRoom never comes up: a player's buffer has room for every end.
+NUMBERS = {str(number) for number in range(13)} - {"11"}
+
+
+class Sessions(unittest.TestCase):
+    def agree(self, records, lines):
+        wanted = (0, lines, left_behind(records, lines))
+        for player in players():
+            self.assertEqual(play(player, records), wanted, player)
+
+    def test_sessions_by_hand(self):
+        for name in names(SESSIONS):
+            with self.subTest(session=name):
+                text = (SESSIONS / f"{name}.session").read_text(encoding="utf-8")
+                self.agree(compose(text), (SESSIONS / f"{name}.lines").read_text(encoding="utf-8").splitlines())
+
+    def test_random_sessions(self):
+        found = set()
+        with tempfile.TemporaryDirectory() as folder:
+            file = Path(folder) / "records"
+            for number in range(1, RANDOM_SESSIONS + 1):
+                write = ["--write", str(number), "--seed", str(SEED), "--file", str(file)]
+                subprocess.run([str(reference() / "compare"), *write], check=True)
+                records = file.read_bytes()
+                _, lines, _ = play((str(reference() / "bench"),), records)
+                found.update(line.split()[1] for line in lines)
+                with self.subTest(seed=SEED, session=number):
+                    self.agree(records, lines)
+        self.assertEqual(found, NUMBERS)
