@@ -25,7 +25,7 @@ def arguments(words: List[str]) -> argparse.Namespace:
 def print_most(all_played: List[Played]) -> None:
     for kind, most in most_by_kind(played for played in all_played if not played.difference).items():
         cycles = "" if most.cycles is None else f", {most.cycles} cycles"
-        print(f"  {kind}, {most.calls} times: at most {most.instructions} instructions{cycles}, {most.stack} bytes of stack")
+        print(f"  {kind} ({most.calls}): at most {most.instructions} instructions{cycles}, {most.stack} bytes of stack")
 
 
 def play_all(player: Player, sessions: List[Path], calls: bool) -> bool:

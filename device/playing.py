@@ -8,8 +8,9 @@ from device.building import Player
 from device.thumb.calls import Call
 from device.thumb.faults import Fault
 from device.thumb.running import Run, run
+from people.answers import ACCEPTED, BAD_RECORD
 from people.composing import compose
-from people.playing import pair
+from people.playing import Step, pair
 
 STEP = "gustlantern_raw_step"
 FRESH = "gustlantern_raw_fresh"
@@ -59,16 +60,20 @@ def play(player: Player, session: Path) -> Played:
     return Played(session.stem, records, ended, difference)
 
 
+def kind_of(step: Step) -> str:
+    if step.answer == BAD_RECORD:
+        return "bad record"
+    name = type(step.content).__name__.lower()
+    return name if step.answer == ACCEPTED else f"{name}, refused"
+
+
 def kinds_of_calls(played: Played) -> List[Tuple[str, Call]]:
     """Each call of the library in a session that went as expected, with the kind of its event and whether it was accepted."""
-    steps = pair(played.records, played.run.text.splitlines()).steps
-    contents = iter(steps)
+    steps = iter(pair(played.records, played.run.text.splitlines()).steps)
     found = []
     for call in played.run.calls:
         if call.name == STEP:
-            step = next(contents)
-            kind = type(step.content).__name__.lower() if step.answer != 12 else "bad record"
-            found.append((kind if step.answer in (0, 12) else f"{kind}, refused", call))
+            found.append((kind_of(next(steps)), call))
         elif call.name == FRESH:
             found.append(("fresh", call))
     return found

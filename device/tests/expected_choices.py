@@ -20,7 +20,8 @@ class Choices:
         if which == 6:
             self.kept[value & 3] ^= value
             return self.kept[value & 3]
-        plain = {0: value + 10, 1: value * 3, 2: ~value, 3: value >> 5, 4: value ^ 0x5A5A5A5A, 7: ODD_SIZES[value % 5], 100: 1, 5000: 2, 0x80000000: 3}
+        plain = {0: value + 10, 1: value * 3, 2: ~value, 3: value >> 5, 4: value ^ 0x5A5A5A5A, 7: ODD_SIZES[value % 5],
+                 100: 1, 5000: 2, 0x80000000: 3}
         return plain.get(which, which) & WORD
 
 
@@ -57,7 +58,7 @@ def choices() -> List[int]:
     for place in range(32):
         value = next(row)
         found.append(data.chosen(value & 7 if value & 0x100 else RARE[value & 3], value))
-        found.append(FUNCTIONS[place % 3](value & 0xFFFF) & WORD)
+        found.append(FUNCTIONS[place % 3](value & 0xFF) & WORD)
         for given in (value, value // 7):
             large.change(given)
             found.append(large.sum())

@@ -7,7 +7,7 @@ from pathlib import Path
 
 from device import kit
 from device.__main__ import main as play_main
-from device.building import M0_PLUS, compile_c, compile_module, link, place, plain_module
+from device.building import M0_PLUS, SMALL, START, SUPPORT, compile_c, compile_module, link, place, plain_module, program
 from device.kit import NotBuilt
 from device.playing import first_difference
 from device.thumb.__main__ import main as run_main
@@ -32,7 +32,9 @@ void play(void)
 
 class Building(unittest.TestCase):
     def setUp(self):
-        self.folder = Path(self.enterContext(tempfile.TemporaryDirectory()) if hasattr(self, "enterContext") else tempfile.mkdtemp())
+        temporary = tempfile.TemporaryDirectory()
+        self.addCleanup(temporary.cleanup)
+        self.folder = Path(temporary.name)
 
     def file(self, name, text):
         made = self.folder / name
@@ -43,12 +45,20 @@ class Building(unittest.TestCase):
         plain = plain_module(self.file("of_test.ll", MODULE))
         self.assertNotIn("x86-64", plain.read_text())
         self.assertNotIn("probe-stack", plain.read_text())
-        sources = [self.file("caller.c", CALLER), kit.ROOT / "device" / "start.c", kit.ROOT / "device" / "support.c"]
-        made = link([compile_module(plain, M0_PLUS), *(compile_c(source, M0_PLUS) for source in sources)], place(M0_PLUS, ("-Os",), "of_test.elf"))
+        objects = [compile_c(source, M0_PLUS) for source in (self.file("caller.c", CALLER), START, SUPPORT)]
+        made = link([compile_module(plain, M0_PLUS), *objects], place(M0_PLUS, SMALL, "of_test.elf"))
         written = io.StringIO()
         with contextlib.redirect_stdout(written):
             self.assertEqual(run_main([str(made), "--calls"]), 0)
         self.assertRegex(written.getvalue(), r"^43gustlantern_answer: 2 instructions, 3 cycles, 0 bytes of stack\nin all: ")
+
+    def test_what_was_written_before_a_fault_is_told(self):
+        source = self.file("stops.c", '#include "host.h"\nvoid play(void) { host_write("so far\\n"); __builtin_trap(); }\n')
+        written, complaints = io.StringIO(), io.StringIO()
+        with contextlib.redirect_stdout(written), contextlib.redirect_stderr(complaints):
+            self.assertEqual(run_main([str(program([source], M0_PLUS))]), 1)
+        self.assertEqual(written.getvalue(), "so far\n")
+        self.assertRegex(complaints.getvalue(), "^defe is no instruction that is known here; instruction at 0x")
 
     def test_complaints_of_the_compiler_are_told(self):
         with self.assertRaisesRegex(NotBuilt, "clang failed:\n.*error"):
@@ -61,7 +71,8 @@ class Building(unittest.TestCase):
         for entry in kit.home().iterdir():
             self.assertTrue((copy / entry.name).exists(), entry.name)
         clang = copy / kit.TOOLCHAIN / "bin" / "clang"
-        kit.command([str(clang), "-S", "-emit-llvm", "-Wno-override-module", "-x", "ir", str(self.file("given.bc", MODULE)), "-o", str(self.folder / "x.ll")])
+        given, made = self.file("given.bc", MODULE), self.folder / "made.ll"
+        kit.command([str(clang), "-S", "-emit-llvm", "-Wno-override-module", "-x", "ir", str(given), "-o", str(made)])
         self.assertEqual((self.folder / "kept.bc").read_text(), MODULE)
 
     def test_differences_are_told(self):

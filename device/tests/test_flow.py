@@ -1,7 +1,7 @@
 """Tests of branches, of both sizes."""
 import unittest
 
-from device.tests.cores import CODE, DATA, core_of, m3_core_of, stepped
+from device.tests.cores import CODE, DATA, core_of, flags_of, m3_core_of, stepped
 
 # For each condition flags that meet it and flags that do not.
 CONDITIONS = (("z", ""), ("", "z"), ("c", ""), ("", "c"), ("n", ""), ("", "n"), ("v", ""), ("", "v"),
@@ -37,7 +37,8 @@ class Flow(unittest.TestCase):
         self.assertEqual(stepped(m3_core_of(0xF43F, 0xAFFC)).address, CODE + 4)
 
     def test_compare_and_branch(self):
-        for code, value, target in ((0xB118, 0, CODE + 10), (0xB118, 1, CODE + 2), (0xB918, 1, CODE + 10), (0xB918, 0, CODE + 2), (0xB318, 0, CODE + 74)):
+        cases = ((0xB118, 0, CODE + 10), (0xB118, 1, CODE + 2), (0xB918, 1, CODE + 10), (0xB918, 0, CODE + 2), (0xB318, 0, CODE + 74))
+        for code, value, target in cases:
             self.assertEqual(stepped(m3_core_of(code, registers={0: value})).address, target)
 
     def test_branch_by_table(self):
@@ -53,6 +54,14 @@ class Flow(unittest.TestCase):
         self.assertEqual((core.registers[0], core.zero, core.carry), (1, 1, 1))
         core = stepped(m3_core_of(0xBF04, 0x2800, 0x3001, registers={0: 1}, flags="z"), 3)
         self.assertEqual((core.registers[0], core.address), (1, CODE + 6))
+
+    def test_flags_to_a_register_and_back(self):
+        for make in (core_of, m3_core_of):
+            core = stepped(make(0xF3EF, 0x8300, 0x2000, 0x1A40, 0xF383, 0x8800, flags="nv"))
+            self.assertEqual(core.registers[3], 0x90000000)
+            stepped(core, 2)
+            self.assertEqual(flags_of(core), "zc")
+            self.assertEqual(flags_of(stepped(core)), "nv")
 
     def test_load_of_the_program_counter(self):
         core = m3_core_of(0xF85D, 0xFB04)

@@ -8,8 +8,8 @@ PUSH_R0_R1_LINK, POP_R2_R3_PROGRAM = 0xB503, 0xBD0C
 
 class Memory(unittest.TestCase):
     def test_each_width_is_stored_alone_and_loaded_back(self):
-        for store, load, size in ((0x6001 | 1 << 6, 0x6801 | 1 << 6, 4), (0x8001 | 1 << 6, 0x8801 | 1 << 6, 2), (0x7001 | 1 << 6, 0x7801 | 1 << 6, 1)):
-            core = core_of(store, load | 1, registers={0: DATA, 1: 0x8899AABB})
+        for store, load, size in ((0x6041, 0x6841, 4), (0x8041, 0x8841, 2), (0x7041, 0x7841, 1)):
+            core = core_of(store, load, registers={0: DATA, 1: 0x8899AABB})
             core.memory.ram[:] = b"\x55" * len(core.memory.ram)
             stepped(core)
             value = 0x8899AABB & (1 << 8 * size) - 1

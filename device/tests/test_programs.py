@@ -5,7 +5,7 @@ from pathlib import Path
 from unittest import mock
 
 from device import qemu
-from device.building import SUPPORT, TARGETS, archive, compile_c, link, place, program
+from device.building import START, SUPPORT, TARGETS, archive, compile_c, link, place, program
 from device.kit import WORK
 from device.tests.expected import arithmetic, copies, long_arithmetic
 from device.tests.expected_choices import choices
@@ -18,11 +18,12 @@ from device.thumb.running import run
 PROGRAMS = Path(__file__).resolve().parent / "programs"
 EXPECTED = {"arithmetic": arithmetic, "long_arithmetic": long_arithmetic, "copies": copies, "choices": choices}
 LEVELS = ("-O0", "-Os", "-O2")
+FAST = ("-O2",)
 
 
 @functools.lru_cache(maxsize=None)
 def expected(name):
-    return "".join(f"{number}\n" for number in EXPECTED[name]())
+    return "".join(f"{number:08x}\n" for number in EXPECTED[name]())
 
 
 @functools.lru_cache(maxsize=None)
@@ -30,17 +31,21 @@ def built(name, target, level):
     return program([PROGRAMS / f"{name}.c"], target, (level,))
 
 
+@functools.lru_cache(maxsize=None)
+def usual_run(name, target, level):
+    return run(built(name, target, level), target.processor)
+
+
 class Programs(unittest.TestCase):
     def each_level(self, name):
         for target in TARGETS.values():
             for level in LEVELS:
                 with self.subTest(processor=target.name, level=level):
-                    made = built(name, target, level)
-                    ended = run(made, target.processor)
+                    ended = usual_run(name, target, level)
                     self.assertTrue(ended.well)
                     self.assertEqual(ended.text, expected(name))
                     if qemu.installed():
-                        self.assertEqual(qemu.written(made, target), expected(name))
+                        self.assertEqual(qemu.written(built(name, target, level), target), expected(name))
 
     def test_arithmetic(self):
         self.each_level("arithmetic")
@@ -60,11 +65,10 @@ class Planted(unittest.TestCase):
 
     def noticed(self, name, changed, *, processor):
         target = TARGETS[processor]
-        made = built(name, target, "-Os")
-        usual = run(made, target.processor)
+        usual = usual_run(name, target, "-Os")
         with changed:
             try:
-                ended = run(made, target.processor, limit=2 * usual.instructions)
+                ended = run(built(name, target, "-Os"), target.processor, limit=2 * usual.instructions)
             except Fault:
                 return
         self.assertNotEqual(ended.text, usual.text)
@@ -104,14 +108,13 @@ class Planted(unittest.TestCase):
 
 class Support(unittest.TestCase):
     def text(self, target, objects):
-        own = [compile_c(source, target) for source in (PROGRAMS / "copies.c", PROGRAMS.parent.parent / "start.c")]
-        made = link([*own, *objects], place(target, ("-Os",), "own-copy.elf"))
-        return run(made, target.processor).text
+        own = [compile_c(source, target, FAST) for source in (PROGRAMS / "copies.c", START)]
+        return run(link([*own, *objects], place(target, FAST, "own-copy.elf")), target.processor).text
 
     def test_another_library_s_functions_win(self):
         for target in TARGETS.values():
-            held = archive([compile_c(SUPPORT, target)], WORK / target.name / "libsupport.a")
-            wrong = compile_c(PROGRAMS / "short_copy.c", target)
+            held = archive([compile_c(SUPPORT, target, FAST)], WORK / target.name / "libsupport.a")
+            wrong = compile_c(PROGRAMS / "short_copy.c", target, FAST)
             self.assertEqual(self.text(target, [held]), expected("copies"))
             for objects in ([held, wrong], [wrong, held], [archive([wrong], WORK / target.name / "libwrong.a"), held]):
                 self.assertNotEqual(self.text(target, objects), expected("copies"))

@@ -59,6 +59,9 @@ class Refusing(unittest.TestCase):
         self.refused(core_of(0x4700, registers={0: DATA | 1}), "no program at")
         self.refused(m3_core_of(0xBF04, 0xE001, 0xBF00, flags="z"), "branch inside of an IT block")
 
+    def test_flag_that_is_not_kept(self):
+        self.refused(core_of(0xF380, 0x8800, registers={0: 1 << 27}), "saturation flag")
+
     def test_no_end(self):
         self.refused(core_of(0xE7FE), "no end after 10 instructions")
 

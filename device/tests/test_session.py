@@ -3,7 +3,7 @@ import struct
 import unittest
 from pathlib import Path
 
-from device.building import SESSION, TARGETS, program, records_source
+from device.building import SESSION, SMALL, START, SUPPORT, TARGETS, compile_c, link, place, records_source
 from device.thumb.running import run
 
 STAND_IN = Path(__file__).resolve().parent / "programs" / "stand_in.c"
@@ -20,10 +20,15 @@ def line(event, number, left):
 
 
 class Session(unittest.TestCase):
+    @classmethod
+    def setUpClass(cls):
+        cls.objects = {target: [compile_c(source, target) for source in (SESSION, STAND_IN, START, SUPPORT)] for target in TARGETS.values()}
+
     def plays(self, records, text):
-        for target in TARGETS.values():
-            held = records_source(records, "of-test")
-            self.assertEqual(run(program([SESSION, STAND_IN, held], target), target.processor).text, text)
+        held = records_source(records, "of-test")
+        for target, objects in self.objects.items():
+            made = link([*objects, compile_c(held, target)], place(target, SMALL, "session-of-test.elf"))
+            self.assertEqual(run(made, target.processor).text, text)
 
     def test_first_record_that_is_not_fresh(self):
         wrong_length, wrong_kind = b"\x63" + FRESH[1:], FRESH[:2] + b"\x01" + FRESH[3:]

@@ -66,9 +66,9 @@ class Wide(unittest.TestCase):
         self.assertEqual(stepped(m3_core_of(0xF8DF, 0x0004, 0, 0, 0x5678, 0x1234)).registers[0], 0x12345678)
 
     def test_two_and_several(self):
-        core = stepped(m3_core_of(0xE9E1, 0x2302, 0xE951, 0x4502, registers={1: DATA, 2: 5, 3: 6}), 2)
+        core = stepped(m3_core_of(0xE9E1, 0x2302, 0xE9D1, 0x4500, registers={1: DATA, 2: 5, 3: 6}), 2)
         self.assertEqual((core.registers[1], core.memory.load(DATA + 8, 4), core.memory.load(DATA + 12, 4)), (DATA + 8, 5, 6))
-        self.assertEqual(core.registers[4:6], [0, 0])
+        self.assertEqual(core.registers[4:6], [5, 6])
         core = stepped(m3_core_of(0xE92D, 0x4110, 0xE8BD, 0x8011, registers={4: 1, 8: 2, 14: 0x201}))
         self.assertEqual([core.memory.load(STACK_TOP - 12 + 4 * place, 4) for place in range(3)], [1, 2, 0x201])
         core.memory.store(STACK_TOP - 4, 4, 0x301)

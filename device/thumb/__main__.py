@@ -29,6 +29,7 @@ def main(words: List[str]) -> int:
     try:
         ended = run(chosen.program, BY_NAME[chosen.processor], chosen.watch)
     except (Fault, OSError) as reason:
+        print(getattr(reason, "written", ""), end="", flush=True)
         print(reason, file=sys.stderr)
         return 1
     print(ended.text, end="")

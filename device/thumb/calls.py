@@ -37,7 +37,7 @@ class Watch:
         self.timed = timed
         self.opened: List[Opened] = []
         self.calls: List[Optional[Call]] = []
-        # The address to which the innermost watched call returns; none is odd, as -1 is.
+        # Where the innermost watched call returns to; -1, which is no address, where none is open.
         self.back = -1
 
     def enter(self, core: "Core", target: int, back: int) -> None:

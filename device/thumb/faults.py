@@ -2,4 +2,6 @@
 
 
 class Fault(Exception):
-    """Why the program can't go on."""
+    """Why the program can't go on, and what it wrote up to there."""
+
+    written = ""

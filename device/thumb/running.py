@@ -6,6 +6,7 @@ from typing import List, Optional
 from device.thumb.calls import Call, Watch
 from device.thumb.core import Core
 from device.thumb.elf import load
+from device.thumb.faults import Fault
 from device.thumb.memory import Memory
 from device.thumb.processors import Processor
 
@@ -30,6 +31,10 @@ def run(path: Path, processor: Processor, watched: str = WATCHED, limit: int = L
     program = load(path)
     watch = Watch(program.named(watched), processor.timed)
     core = Core(Memory(program.flash), processor.decode, watch)
-    core.run(limit)
+    try:
+        core.run(limit)
+    except Fault as fault:
+        fault.written = "".join(core.host.parts)
+        raise
     cycles = core.cycles if processor.timed else None
     return Run("".join(core.host.parts), core.host.well, core.instructions, cycles, core.top - core.lowest, watch.finished())

@@ -5,6 +5,7 @@ from device.thumb import bits
 from device.thumb.bits import WORD
 from device.thumb.core import PROGRAM, STACK, Core
 from device.thumb.decoding import Place, Row
+from device.thumb.narrow_flow import ALWAYS, nothing
 from device.thumb.operations import Execute
 
 
@@ -30,7 +31,7 @@ def branch_if(code: int, place: Place) -> Optional[Execute]:
     condition = code >> 22 & 15
     offset = (code >> 26 & 1) << 20 | (code >> 11 & 1) << 19 | (code >> 13 & 1) << 18 | (code >> 16 & 0x3F) << 12 | (code & 0x7FF) << 1
     target = place.ahead + bits.signed(offset, 21) & WORD
-    if condition >= 14 or place.in_block:
+    if condition >= ALWAYS or place.in_block:
         return None
 
     def execute(core: Core) -> None:
@@ -51,10 +52,6 @@ def table_branch(code: int, place: Place) -> Optional[Execute]:
         core.branch(place.ahead + 2 * core.memory.load(table + core.registers[index] * size & WORD, size))
 
     return execute
-
-
-def nothing(code: int, place: Place) -> Execute:
-    return lambda core: None
 
 
 LINK_ROW = Row(0xF800D000, 0xF000D000, branch_with_link, 3)

@@ -82,7 +82,8 @@ def double(code: int, place: Place) -> Optional[Execute]:
 
 def multiple(code: int, place: Place) -> Optional[Execute]:
     """Several registers, upwards from an address or up to just below it."""
-    upwards, keeps, loads, base, numbers = bool(code & 0x800000), bool(code & 0x200000), bool(code & 0x100000), code >> 16 & 15, listed(code & 0xFFFF)
+    upwards, keeps, loads = (bool(code & bit) for bit in (0x800000, 0x200000, 0x100000))
+    base, numbers = code >> 16 & 15, listed(code & 0xFFFF)
     clash = keeps and base in numbers or PROGRAM in numbers and (LINK in numbers or not loads)
     if len(numbers) < 2 or clash or STACK in numbers or base == PROGRAM:
         return None

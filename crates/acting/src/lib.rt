@@ -1,9 +1,8 @@
 // A call and a release in place: look, decide, store.
 ghost use Prim.Native.Nat.{_<_};
-ghost use mathlib.Core.Path.{_≡_};
 ghost use Rattle.rules.specs.Steps.{callStep, releaseStep};
 ghost use Rattle.tables.specs.Places.{Fits};
-ghost use Rattle.tables.specs.Views.{view, stepped};
+ghost use Rattle.tables.specs.Views.{view, Steps};
 use answers::Answer;
 use counters::ObjectNo;
 use counters::Size;
@@ -23,7 +22,7 @@ pub fn call(
     argument: u32,
 ) -> Answer
     requires { ⌜ Fits size (now words) (now bytes) (now marks) × (0 < size .slots) × (0 < size .objects) ⌝ }
-    ensures { λ r. ⌜ Fits size (now (words .exit)) (now (bytes .exit)) (now (marks .exit)) × (stepped size (now (words .exit)) (now (bytes .exit)) (now (marks .exit)) r ≡ callStep size (view size (now (words .entry)) (now (bytes .entry)) (now (marks .entry))) (slot .0) (number .0) kind argument) ⌝ }
+    ensures { λ r. ⌜ Steps size (now (words .exit)) (now (bytes .exit)) (now (marks .exit)) r (callStep size (view size (now (words .entry)) (now (bytes .entry)) (now (marks .entry))) (slot .0) (number .0) kind argument) ⌝ }
 {
     let s = places::seat(slot.0, size.slots);
     let o = places::seat(number.0, size.objects);
@@ -51,7 +50,7 @@ pub fn release(
     number: ObjectNo,
 ) -> Answer
     requires { ⌜ Fits size (now words) (now bytes) (now marks) × (0 < size .slots) × (0 < size .objects) ⌝ }
-    ensures { λ r. ⌜ Fits size (now (words .exit)) (now (bytes .entry)) (now (marks .entry)) × (stepped size (now (words .exit)) (now (bytes .entry)) (now (marks .entry)) r ≡ releaseStep size (view size (now (words .entry)) (now (bytes .entry)) (now (marks .entry))) (slot .0) (number .0)) ⌝ }
+    ensures { λ r. ⌜ Steps size (now (words .exit)) (now (bytes .entry)) (now (marks .entry)) r (releaseStep size (view size (now (words .entry)) (now (bytes .entry)) (now (marks .entry))) (slot .0) (number .0)) ⌝ }
 {
     let s = places::seat(slot.0, size.slots);
     let o = places::seat(number.0, size.objects);

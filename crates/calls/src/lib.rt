@@ -1,13 +1,14 @@
 // What an accepted call makes of its object and of its pair.
 ghost use mathlib.Core.Path.{_≡_};
-ghost use Rattle.objects.specs.Places.{countAfter, reaches, calledObject, calledPair};
+ghost use Rattle.calls.specs.Calls.{calledWith};
+ghost use Rattle.objects.specs.Places.{countAfter, reaches, calledPair};
 use counters::CallCount;
 use objects::Object;
 use objects::Pair;
 
-// The kind acts, and at the supremum the object is let go.
+// The word is what the kind leaves, and at the supremum the object is let go.
 pub fn object(object: Object, pair: Pair, word: u32) -> Object
-    ensures { λ r. ⌜ r ≡ calledObject kind argument pair object ⌝ }
+    ensures { λ r. ⌜ r ≡ calledWith word pair object ⌝ }
 {
     let global = object.global;
     let terminal = object.terminal;

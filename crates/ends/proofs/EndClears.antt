@@ -10,6 +10,7 @@ use Rattle.answers.specs.Order.{pick}
 use Rattle.counters.specs.Sizes.{Size}
 use Rattle.objects.specs.Places.{noPair, ended, restores, restored, spoiledPair}
 use Rattle.objects.specs.declared.Pair.{Pair}
+use Rattle.ends.specs.Ends.{endCleared}
 use Rattle.rules.proofs.Cleared.{clearedTo}
 use Rattle.rules.specs.Tables.{State, objectAt, liveAt, pairAt, withObject, withPair}
 use Rattle.rules.specs.Walks.{eachBelow}
@@ -17,10 +18,6 @@ use Rattle.rules.specs.Effects.{spoilOne, spoilOthers, restoreOne, endOne, endT
 use Rattle.rules.proofs.Picking.{pick-seen}
 use Rattle.rules.proofs.Restored.{hasCalled}
 use Rattle.rules.proofs.Stores.{place-apart, pair-elsewhere}
-
--- the turn of an object, and the slot's pair on it zero
-abbrev pub endCleared : Size → Bool → ℕ → ℕ → State → State
-endCleared z rollback s o t = withPair z (endTurn z rollback s o t) s o noPair
 
 module _ (z : Size) (s k o : ℕ) (below : k < z .objects) (inside : o < z .objects) (apart : k ≢ o) where
   read-beside : (r : ℕ) (t : State) → pairAt z (withPair z t s k noPair) r o ≡ pairAt z t r o

@@ -1,3 +1,3 @@
-pub mod EndLoops
+pub mod Spoils
 pub mod EndClears
 pub mod EndTurns

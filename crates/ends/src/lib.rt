@@ -2,7 +2,7 @@
 ghost use mathlib.Core.Bool.{_&&_};
 ghost use mathlib.Core.Path.{_≡_};
 ghost use Rattle.objects.specs.Places.{restores};
-ghost use Rattle.ends.specs.Ends.{endedObject, spreadOf, spoiledBy};
+ghost use Rattle.ends.specs.Ends.{endedObject, spreadOf};
 use objects::Object;
 use objects::Pair;
 

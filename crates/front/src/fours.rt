@@ -1,7 +1,7 @@
 // Four bytes side by side: those of a frame, and those of a word.
 ghost use mathlib.Core.Path.{_≡_};
 ghost use mathlib.Core.List.{_++_};
-ghost use Prim.Native.Nat.{_+_};
+ghost use Prim.Native.Nat.{_+_, _≤_};
 ghost use Rattle.layout.specs.Bytes.{halfBytes, wordBytes};
 ghost use Rattle.layout.specs.Kinds.{shapeOf};
 ghost use Rattle.layout.specs.Fields.{kindOfFields};
@@ -13,6 +13,7 @@ pub struct Four(pub u8, pub u8, pub u8, pub u8);
 
 // Length and kind, in front of a body with a list of so many bytes.
 pub fn frame(fields: Fields, bytes: u16) -> Four
+    requires { ⌜ bytes ≤ 510 ⌝ }
     ensures { λ r. ⌜ inOrder r ≡ halfBytes (shapeOf (kindOfFields fields) .head + bytes) ++ halfBytes (shapeOf (kindOfFields fields) .number) ⌝ }
 {
     let shape = shape_of(fields);

@@ -1,4 +1,5 @@
 // What stands in front of a record's list: the frame and the head of the body.
+ghost use Prim.Native.Nat.{_≤_};
 ghost use mathlib.Core.Path.{_≡_};
 ghost use Rattle.layout.specs.Fields.{frontOf};
 ghost use Rattle.front.specs.Filled.{filled};
@@ -8,14 +9,16 @@ mod heads;
 
 use layout::fields::Fields;
 
-// The front for a list of so many bytes, and zeros behind it: a frame has 4 bytes and the longest head 8.
+// The front for a list of so many bytes, as many as a count of pairs can tell, and zeros behind it: a frame has 4 bytes and the
+// longest head 8.
 pub fn front(fields: Fields, bytes: u16) -> [u8; 12]
+    requires { ⌜ bytes ≤ 510 ⌝ }
     ensures { λ r. ⌜ r ≡ filled 12 (frontOf fields bytes) ⌝ }
 {
     let frame = fours::frame(fields, bytes);
     match fields {
         Fields::Fresh { first } => heads::fresh(frame, first),
-        Fields::Start { slot } => heads::two(frame, slot.0, (bytes / 2 % 256) as u8),
+        Fields::Start { slot } => heads::two(frame, slot.0, (bytes / 2) as u8),
         Fields::Call {
             slot,
             object,
@@ -29,13 +32,13 @@ pub fn front(fields: Fields, bytes: u16) -> [u8; 12]
             frame,
             tick,
             slot,
-            (bytes / 5 % 256) as u8,
+            (bytes / 5) as u8,
         ),
         Fields::RolledBack { tick, slot } => heads::ended(
             frame,
             tick,
             slot,
-            (bytes / 5 % 256) as u8,
+            (bytes / 5) as u8,
         ),
     }
 }

@@ -1,4 +1,1 @@
-pub mod Entering
-pub mod Conclusions
 pub mod Seeing
-pub mod Unique

@@ -1,4 +1,14 @@
 // What an end sees of its slot's objects, and what its rules say of that.
+ghost use Prim.Native.Nat.{ℕ, _≤_};
+ghost use mathlib.Core.List.{[], _∷_};
+ghost use mathlib.Core.Path.{_≡_};
+ghost use Rattle.answers.specs.Order.{decide, _when_};
+ghost use Rattle.answers.specs.declared.Refusal.the-variants.{Wait, NoRoom};
+ghost use lib.ListN.{length};
+ghost use Rattle.rules.specs.Refusing.{misses, endRules};
+ghost use Rattle.rules.specs.Effects.{entryOf, endFields};
+ghost use Rattle.sights.specs.Sights.{noSight, seen};
+ghost use Rattle.verdicts.specs.declared.Verdict.the-variants.{Passes, Refuses};
 use answers::Refusal;
 use counters::Size;
 use counters::SlotNo;
@@ -8,7 +18,7 @@ use objects::Pair;
 use verdicts::Verdict;
 use verdicts::either;
 
-// Whether the slot is doomed, whether a terminal need is not met, and how many bytes the entries of the record have, so far.
+// Whether the slot is doomed, whether a terminal need is not met, and how many bytes the entries of the record have.
 pub struct Sight {
     pub doomed: bool,
     pub unmet: bool,
@@ -17,7 +27,9 @@ pub struct Sight {
 
 impl Sight {
     // Before the first object.
-    pub fn none() -> Sight {
+    pub fn none() -> Sight
+        ensures { λ r. ⌜ r ≡ noSight ⌝ }
+    {
         Sight {
             doomed: false,
             unmet: false,
@@ -25,8 +37,11 @@ impl Sight {
         }
     }
 
-    // With one object more. An object that is not declared has no entry.
-    pub fn look(self, pair: Pair, object: Object) -> Sight {
+    // With one object more; room is left for every object that a pump can have.
+    pub fn look(self, pair: Pair, object: Object) -> Sight
+        requires { ⌜ self .bytes ≤ 1275 ⌝ }
+        ensures { λ r. ⌜ ((o : ℕ) → r ≡ seen o pair object self) ⌝ }
+    {
         Sight {
             doomed: either(self.doomed, pair.spoiled),
             unmet: either(self.unmet, misses(pair, object)),
@@ -35,7 +50,10 @@ impl Sight {
     }
 }
 
-fn entry_bytes(pair: Pair) -> u16 {
+// An object that is not declared has no entry.
+fn entry_bytes(pair: Pair) -> u16
+    ensures { λ r. ⌜ ((o : ℕ) → r ≡ length (entryOf o pair)) × (r ≤ 5) ⌝ }
+{
     if pair.declared {
         return 5;
     }
@@ -43,7 +61,9 @@ fn entry_bytes(pair: Pair) -> u16 {
 }
 
 // Whether the object is declared and does not meet its terminal need.
-fn misses(pair: Pair, object: Object) -> bool {
+fn misses(pair: Pair, object: Object) -> bool
+    ensures { λ r. ⌜ r ≡ misses pair object ⌝ }
+{
     if !pair.declared {
         return false;
     }
@@ -59,7 +79,9 @@ pub fn verdict(
     live: bool,
     sight: Sight,
     short: bool,
-) -> Verdict {
+) -> Verdict
+    ensures { λ r. ⌜ r ≡ decide (endRules size rollback (slot .0) live (sight .doomed) (sight .unmet) short) Refuses Passes ⌝ }
+{
     if size.slots <= slot.0 {
         return Verdict::Refuses(Refusal::BadSlot);
     }
@@ -76,7 +98,9 @@ pub fn verdict(
 }
 
 // The last rules of both: 10, 11.
-fn last(unmet: bool, short: bool) -> Verdict {
+fn last(unmet: bool, short: bool) -> Verdict
+    ensures { λ r. ⌜ r ≡ decide (Wait when unmet ∷ NoRoom when short ∷ []) Refuses Passes ⌝ }
+{
     if unmet {
         return Verdict::Refuses(Refusal::Wait);
     }
@@ -86,7 +110,9 @@ fn last(unmet: bool, short: bool) -> Verdict {
     Verdict::Passes
 }
 
-pub fn fields(rollback: bool, tick: u32, slot: SlotNo) -> Fields {
+pub fn fields(rollback: bool, tick: u32, slot: SlotNo) -> Fields
+    ensures { λ r. ⌜ r ≡ endFields rollback tick (slot .0) ⌝ }
+{
     if rollback {
         return Fields::RolledBack { tick, slot };
     }

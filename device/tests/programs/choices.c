@@ -74,7 +74,7 @@ void play(void)
         uint32_t value = next_number(&state);
         bool few = value & 0x100;
         write_number(chosen(few ? value & 7 : rare[value & 3], value));
-        write_number(functions[round % 3](value & 0xffff));
+        write_number(functions[round % 3](value & 0xff));
         struct large second = changed(first, value);
         first = changed(second, value / 7);
         write_number(sum_of(&second));

@@ -15,10 +15,8 @@ static uint8_t room[ROOM] __attribute__((aligned(8))), source[ROOM] __attribute_
 
 static void prepare(void)
 {
-    for (uint32_t place = 0; place < ROOM; place++) {
+    for (uint32_t place = 0; place < ROOM; place++)
         room[place] = (uint8_t)(place * 7 + 1);
-        source[place] = (uint8_t)(place * 11 + 3);
-    }
 }
 
 /* All bytes of the room, each by its place, joined to what was before. */
@@ -71,6 +69,8 @@ static uint32_t fillings(uint32_t to)
 
 void play(void)
 {
+    for (uint32_t place = 0; place < ROOM; place++)
+        source[place] = (uint8_t)(place * 11 + 3);
     for (uint32_t to = 0; to < 4; to++) {
         for (uint32_t from = 0; from < 4; from++)
             write_number(copies(to, from));

@@ -13,12 +13,14 @@ static inline uint32_t next_number(uint32_t *state)
     return *state;
 }
 
+/* In hexadecimal digits: decimal ones would cost a Cortex-M0+ most of its time. */
 static inline void write_number(uint32_t number)
 {
-    char text[12];
-    char *place = put_number(text, number);
-    *place++ = '\n';
-    *place = 0;
+    char text[10];
+    for (int place = 7; place >= 0; place--, number >>= 4)
+        text[place] = "0123456789abcdef"[number & 15];
+    text[8] = '\n';
+    text[9] = 0;
     host_write(text);
 }
 

@@ -6,12 +6,12 @@ use Rattle.calls.proofs.object.Tie as tie
 returns : tie.Need-returns
 returns c =
     let asked = c .before .before in
-    rw (← asked .reaches .ensures, ← asked .before .before .before .act .ensures, c .before .if1 .taken)
+    rw (← asked .reaches .ensures, c .before .if1 .taken)
 
 returns-2 : tie.Need-returns-2
 returns-2 c =
     let asked = c .before .before in
-    rw (← asked .reaches .ensures, ← asked .before .before .before .act .ensures, c .before .if1 .left)
+    rw (← asked .reaches .ensures, c .before .if1 .left)
 
 pub object-spec : {M : Type 1} → statement M
-object-spec = tie.close (tie.spec (λ c κs. search needs) (λ c κs. search needs) returns returns-2)
+object-spec = tie.close (tie.spec (λ c κs. search needs) returns returns-2)

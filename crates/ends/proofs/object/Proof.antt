@@ -2,7 +2,6 @@
 use mathlib.Core.Path.{ap, _∙_}
 use borrow.Author.Needs.{needs}
 use borrow.Author.Tests.{not-true, not-false}
-use Rattle.counters.specs.Sizes.{base}
 use Rattle.objects.specs.Places.{ended}
 use Rattle.objects.specs.declared.Object.{Object}
 use Rattle.ends.proofs.object.Statement.{statement}
@@ -17,7 +16,7 @@ returns-2 c =
     let declared = back .before .before in
     let a = declared .before .before .args in
     rw (← back .before .puts-back .ensures, back .if2 .taken, not-false (a .pair .declared) (declared .if1 .left))
-    (c .end .ensures ∙ ap (λ (x : Object). ended (base .slots) (a .pair) x) (c .before .restore .ensures))
+    (c .end .ensures ∙ ap (λ (x : Object). ended (a .slots) (a .pair) x) (c .before .restore .ensures))
 
 returns-3 : tie.Need-returns-3
 returns-3 c =

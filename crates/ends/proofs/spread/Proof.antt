@@ -10,4 +10,4 @@ returns-2 : tie.Need-returns-2
 returns-2 c = rw (← c .before .puts-back .ensures, c .if1 .left)
 
 pub spread-spec : {M : Type 1} → statement M
-spread-spec = tie.close (tie.spec (λ c κs. search needs) (λ c. search needs) returns returns-2)
+spread-spec = tie.close (tie.spec (λ c κs. search needs) returns returns-2)

@@ -1,6 +1,6 @@
--- `sights::concluding::fields` meets its promise.
-use Rattle.sights.proofs.concluding.fields.Statement.{statement}
-use Rattle.sights.proofs.concluding.fields.Tie as tie
+-- `sights::fields` meets its promise.
+use Rattle.sights.proofs.fields.Statement.{statement}
+use Rattle.sights.proofs.fields.Tie as tie
 
 returns : tie.Need-returns
 returns c = rw (c .if1 .taken)

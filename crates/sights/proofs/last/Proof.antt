@@ -1,6 +1,6 @@
--- `sights::concluding::last` meets its promise.
-use Rattle.sights.proofs.concluding.last.Statement.{statement}
-use Rattle.sights.proofs.concluding.last.Tie as tie
+-- `sights::last` meets its promise.
+use Rattle.sights.proofs.last.Statement.{statement}
+use Rattle.sights.proofs.last.Tie as tie
 
 returns : tie.Need-returns
 returns c = simp (c .if1 .taken)

@@ -1,4 +1,4 @@
--- `sights::concluding::verdict` meets its promise.
+-- `sights::verdict` meets its promise.
 use Prim.Native.Nat.{ℕ}
 use mathlib.Core.Bool.{Bool, true, false, not}
 use mathlib.Core.Path.{_≡_}
@@ -6,33 +6,33 @@ use lib.Dec.{leb}
 use borrow.Author.Tests.{le-leb, lt-leb}
 use Rattle.answers.specs.Order.{decide}
 use Rattle.answers.specs.declared.Refusal.the-variants.{BadSlot, Idle}
-use Rattle.counters.specs.Sizes.{base}
+use Rattle.counters.specs.Sizes.{Size}
 use Rattle.rules.specs.Refusing.{endRules}
 use Rattle.verdicts.specs.declared.Verdict.the-variants.{Passes, Refuses}
 use borrow.Author.Needs.{needs}
-use Rattle.sights.proofs.concluding.verdict.Statement.{statement}
-use Rattle.sights.proofs.concluding.verdict.Tie as tie
+use Rattle.sights.proofs.verdict.Statement.{statement}
+use Rattle.sights.proofs.verdict.Tie as tie
 
 -- the first two rules are those of a commit and of a rollback
-bad-slot : (rollback live doomed unmet short : Bool) (slot : ℕ) → leb (base .slots) slot ≡ true
-    → Refuses BadSlot ≡ decide (endRules base rollback slot live doomed unmet short) Refuses Passes
-bad-slot true live doomed unmet short slot past = rw past
-bad-slot false live doomed unmet short slot past = rw past
+bad-slot : (size : Size) (rollback live doomed unmet short : Bool) (slot : ℕ) → leb (size .slots) slot ≡ true
+    → Refuses BadSlot ≡ decide (endRules size rollback slot live doomed unmet short) Refuses Passes
+bad-slot size true live doomed unmet short slot past = rw past
+bad-slot size false live doomed unmet short slot past = rw past
 
-idle : (rollback live doomed unmet short : Bool) (slot : ℕ) → leb (base .slots) slot ≡ false → not live ≡ true
-    → Refuses Idle ≡ decide (endRules base rollback slot live doomed unmet short) Refuses Passes
-idle true live doomed unmet short slot inside rests = rw (inside, rests)
-idle false live doomed unmet short slot inside rests = rw (inside, rests)
+idle : (size : Size) (rollback live doomed unmet short : Bool) (slot : ℕ) → leb (size .slots) slot ≡ false → not live ≡ true
+    → Refuses Idle ≡ decide (endRules size rollback slot live doomed unmet short) Refuses Passes
+idle size true live doomed unmet short slot inside rests = rw (inside, rests)
+idle size false live doomed unmet short slot inside rests = rw (inside, rests)
 
 returns : tie.Need-returns
 returns c =
-    let a = c .before .before .args in
-    bad-slot (a .rollback) (a .live) (a .doomed) (a .unmet) (a .short) (a .slot .0) (le-leb _ _ (c .if1 .taken))
+    let a = c .before .before .before .args in
+    bad-slot (a .size) (a .rollback) (a .live) (a .sight .doomed) (a .sight .unmet) (a .short) (a .slot .0) (le-leb _ _ (c .if1 .taken))
 
 returns-2 : tie.Need-returns-2
 returns-2 c =
-    let a = c .before .before .before .args in
-    idle (a .rollback) (a .live) (a .doomed) (a .unmet) (a .short) (a .slot .0) (lt-leb _ _ (c .before .if1 .left)) (c .if2 .taken)
+    let a = c .before .before .before .before .args in
+    idle (a .size) (a .rollback) (a .live) (a .sight .doomed) (a .sight .unmet) (a .short) (a .slot .0) (lt-leb _ _ (c .before .if1 .left)) (c .if2 .taken)
 
 returns-3 : tie.Need-returns-3
 returns-3 c =
