@@ -1,6 +1,6 @@
 """Builds libgustlantern.a for this machine from the LLVM module of the crate `kernel`, with the kit's own compiler.
 
-    python3 -B -m library.building [MODULE]      prints the archive's folder; where no MODULE is given, the crate is proved for one
+    python3 -B -m library.building [MODULE]      prints the folder of the archive; without MODULE the crate is proved
 """
 import os
 import sys

@@ -1,10 +1,12 @@
 /* Supremum versioning for the tasks of a pump: 16 slots, 24 objects, all memory lent by the caller.
  *
  * Every function takes every argument, finishes, and answers a number of `enum gustlantern_number`; a refusal changes
- * nothing. No function keeps a pointer, blocks, allocates or prints.
+ * nothing. No function keeps a pointer, blocks, allocates or prints. The numbers at a function are its refusals, in the
+ * order in which they are tried.
  *
- * The caller owes: no pointer is null, each is aligned for its type, no two of one call overlap, every mark is 0 or 1
- * (gustlantern_marks_hold checks it), and one caller at a time, with interrupts off or under one lock.
+ * The caller owes: no pointer is null, also where its length is 0; each is aligned for its type; no two of one call
+ * overlap; every mark is 0 or 1, also before the tables are fresh (memory of zeros is so, gustlantern_marks_hold checks
+ * it); one caller at a time, with interrupts off or under one lock.
  */
 #ifndef GUSTLANTERN_H
 #define GUSTLANTERN_H

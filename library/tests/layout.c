@@ -50,7 +50,8 @@ static void event(uint32_t number, uint32_t wanted)
 }
 
 /* The places of one pair, as session W has them. */
-static void pair_holds(int slot, int object, uint32_t private_version, uint32_t count, uint32_t called, uint32_t spoiled, uint32_t saved)
+static void pair_holds(int slot, int object, uint32_t private_version, uint32_t count, uint32_t called, uint32_t spoiled,
+                       uint32_t saved)
 {
     int pair = slot * GUSTLANTERN_OBJECTS + object;
 

@@ -175,7 +175,7 @@ static void looks(void)
     expect("object 23", object.word == 0 && object.global == 9 && object.local == 9 && object.terminal == 9, 1);
     expect("a look at object 24 of slot 15", gustlantern_look_pair(&lent.tables, 15, 24, &pair), GUSTLANTERN_BAD_OBJECT);
     expect("a look at slot 16", gustlantern_look_pair(&lent.tables, 16, 23, &pair), GUSTLANTERN_BAD_SLOT);
-    expect("a look at slot 255, object 255", gustlantern_look_pair(&lent.tables, HIGHEST, HIGHEST, &pair), GUSTLANTERN_BAD_SLOT);
+    expect("a look at pair 255", gustlantern_look_pair(&lent.tables, HIGHEST, HIGHEST, &pair), GUSTLANTERN_BAD_SLOT);
     expect("the first of what is not seen", pair.live, 1);
     expect("the last of what is not seen", pair.saved, 8);
     expect("a look at the last pair", gustlantern_look_pair(&lent.tables, 15, 23, &pair), GUSTLANTERN_ACCEPTED);

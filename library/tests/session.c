@@ -101,11 +101,12 @@ static void report_end(size_t written)
 
 static void report_pair(uint8_t slot, uint8_t object)
 {
+    static const struct gustlantern_pair nothing;
     struct gustlantern_pair seen;
 
     if (gustlantern_look_pair(&lent.tables, slot, object, &seen) != GUSTLANTERN_ACCEPTED)
         fail("a look at a pair is refused");
-    if (seen.live | seen.declared | seen.supremum | seen.private_version | seen.count | seen.called | seen.spoiled | seen.saved)
+    if (memcmp(&seen, &nothing, sizeof seen) != 0)
         fprintf(stderr, "pair %u %u: %u %u %u %u %u %u %u %u\n", (unsigned)slot, (unsigned)object, seen.live, seen.declared,
                 seen.supremum, seen.private_version, seen.count, seen.called, seen.spoiled, seen.saved);
 }

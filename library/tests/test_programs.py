@@ -1,4 +1,4 @@
-"""Tests by programs that check themselves: limits and layout in C, the wrapper's own tests, and the example."""
+"""Tests by programs that check themselves: limits and layout in C, the wrapper's own tests, and the examples."""
 import os
 import subprocess
 import unittest
@@ -23,11 +23,14 @@ class Programs(unittest.TestCase):
 
     def test_wrapper_says_what_is_missing(self):
         settings = {name: value for name, value in os.environ.items() if name != "GUSTLANTERN_LIBRARY"}
-        words = ["cargo", "build", "--offline", "--manifest-path", str(WRAPPER / "Cargo.toml"), "--target-dir", str(MADE / "without")]
-        ended = subprocess.run(words, env=settings, stdout=subprocess.PIPE, stderr=subprocess.STDOUT, universal_newlines=True)
+        where = ["--manifest-path", str(WRAPPER / "Cargo.toml"), "--target-dir", str(MADE / "without")]
+        ended = subprocess.run(["cargo", "build", "--offline", *where], env=settings, stdout=subprocess.PIPE,
+                               stderr=subprocess.STDOUT, universal_newlines=True)
         self.assertNotEqual(ended.returncode, 0)
         self.assertIn("GUSTLANTERN_LIBRARY is not set", ended.stdout)
 
-    def test_example(self):
-        printed = self.ends_well(in_c(EXAMPLES / "pump.c"))
-        self.assertEqual(printed, (EXAMPLES / "pump.expected").read_text(encoding="utf-8"))
+    def test_examples(self):
+        for source in sorted(EXAMPLES.glob("*.c")):
+            with self.subTest(example=source.stem):
+                wanted = source.with_suffix(".expected").read_text(encoding="utf-8")
+                self.assertEqual(self.ends_well(in_c(source)), wanted)

@@ -1,11 +1,11 @@
 // How tables and transactions begin, in place: fresh tables, and a start.
 ghost use Prim.Native.Nat.{_<_};
-ghost use mathlib.Core.Bool.{false};
 ghost use mathlib.Core.Path.{_≡_};
-ghost use lib.ListN.{length, getD};
+ghost use lib.ListN.{length};
+ghost use Rattle.beginning.specs.Beginnings.{beginObject, beginSlot};
 ghost use Rattle.rules.specs.Effects.{clearSlot, declareOne, declareAll};
 ghost use Rattle.rules.specs.Steps.{startStep};
-ghost use Rattle.rules.specs.Tables.{withObject, withLive, freshObject, freshTables};
+ghost use Rattle.rules.specs.Tables.{freshTables};
 ghost use Rattle.rules.specs.Walks.{eachBelow};
 ghost use Rattle.starts.proofs.StartLoops.{Within};
 ghost use Rattle.tables.specs.Places.{wordsLong, Fits};
@@ -110,7 +110,7 @@ pub fn fresh(
 
 fn begin_objects(words: &mut [u32], size: Size, first: Version, given: &[u32])
     requires { ⌜ (length (now words) ≡ wordsLong size) × (length (now given) ≡ size .objects) ⌝ }
-    ensures { λ _. ⌜ WordsBecome size (now (words .entry)) (now (words .exit)) (eachBelow (size .objects) (λ o t. withObject t o (freshObject (first .0) (getD (now (given .entry)) o 0)))) ⌝ }
+    ensures { λ _. ⌜ WordsBecome size (now (words .entry)) (now (words .exit)) (eachBelow (size .objects) (beginObject (first .0) (now (given .entry)))) ⌝ }
 {
     let mut o: u32 = 0;
     while o < size.objects as u32 {
@@ -128,7 +128,7 @@ fn begin_objects(words: &mut [u32], size: Size, first: Version, given: &[u32])
 // No slot live, and all entries zero.
 fn begin_slots(words: &mut [u32], bytes: &mut [u8], marks: &mut [bool], size: Size)
     requires { ⌜ Fits size (now words) (now bytes) (now marks) ⌝ }
-    ensures { λ _. ⌜ Become size (now (words .entry)) (now (bytes .entry)) (now (marks .entry)) (now (words .exit)) (now (bytes .exit)) (now (marks .exit)) (eachBelow (size .slots) (λ s t. withLive (clearSlot size s t) s false)) ⌝ }
+    ensures { λ _. ⌜ Become size (now (words .entry)) (now (bytes .entry)) (now (marks .entry)) (now (words .exit)) (now (bytes .exit)) (now (marks .exit)) (eachBelow (size .slots) (beginSlot size)) ⌝ }
 {
     let mut s: u32 = 0;
     while s < size.slots as u32 {

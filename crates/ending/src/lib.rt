@@ -1,4 +1,15 @@
-// Commit and rollback in place.
+// Commit and rollback in place: look at every object, decide, write the record, and give every object its turn.
+ghost use Prim.Native.Nat.{_*_, _≤_, _<_};
+ghost use mathlib.Core.Path.{_≡_};
+ghost use Rattle.ends.specs.Ends.{endCleared};
+ghost use Rattle.rules.specs.Steps.{endStep};
+ghost use Rattle.rules.specs.Walks.{eachBelow};
+ghost use Rattle.sights.specs.Sights.{sightOf};
+ghost use Rattle.tables.specs.Places.{Fits};
+ghost use Rattle.tables.specs.Views.{view, Become, Ends};
+
+mod writing;
+
 use answers::Answer;
 use counters::Size;
 use counters::SlotNo;
@@ -17,22 +28,18 @@ pub fn end(
     tick: u32,
     rollback: bool,
     buf: &mut [u8],
-) -> Answer {
+) -> Answer
+    requires { ⌜ Fits size (now words) (now bytes) (now marks) × (0 < size .slots) × (size .objects ≤ 102) ⌝ }
+    ensures { λ r. ⌜ Ends size (now (words .exit)) (now (bytes .exit)) (now (marks .exit)) r (now (buf .exit)) (endStep size rollback (view size (now (words .entry)) (now (bytes .entry)) (now (marks .entry))) (slot .0) tick (now (buf .entry))) ⌝ }
+{
     let s = places::seat(slot.0, size.slots);
+    let live = tables::live_at(marks, size, s);
     let sight = look(words, bytes, marks, size, s);
     let short = buf.len() < 10 + sight.bytes as usize;
-    match sights::verdict(
-        size,
-        slot,
-        rollback,
-        tables::live_at(marks, size, s),
-        sight,
-        short,
-    ) {
+    match sights::verdict(size, slot, rollback, live, sight, short) {
         Verdict::Refuses(refusal) => Answer::Refused(refusal),
         Verdict::Passes => {
-            front(rollback, tick, slot, sight.bytes, buf);
-            entries(words, bytes, marks, size, s, &mut buf[10..]);
+            writing::record(words, bytes, marks, size, s, rollback, tick, slot, sight.bytes, buf);
             settle(words, bytes, marks, size, s, rollback);
             tables::store_live(marks, size, s, false);
             Answer::Accepted(10 + sight.bytes as u32)
@@ -41,49 +48,18 @@ pub fn end(
 }
 
 // What the end sees of its slot's objects.
-fn look(words: &[u32], bytes: &[u8], marks: &[bool], size: Size, s: u32) -> Sight {
+fn look(words: &[u32], bytes: &[u8], marks: &[bool], size: Size, s: u32) -> Sight
+    requires { ⌜ Fits size (now words) (now bytes) (now marks) × (s < size .slots) ⌝ }
+    ensures { λ r. ⌜ (r ≡ sightOf size (view size (now (words .entry)) (now (bytes .entry)) (now (marks .entry))) s) × (r .bytes ≤ 5 * size .objects) ⌝ }
+{
     let mut sight = Sight::none();
     let mut o: u32 = 0;
     while o < size.objects as u32 {
-        sight = sight.look(
-            tables::pair_at(words, bytes, marks, size, s, o),
-            tables::object_at(words, size, o),
-        );
+        let pair = tables::pair_at(words, bytes, marks, size, s, o);
+        sight = sight.look(pair, tables::object_at(words, size, o));
         o = o + 1;
     }
     sight
-}
-
-// The frame and the head of the record.
-fn front(rollback: bool, tick: u32, slot: SlotNo, list: u16, buf: &mut [u8]) {
-    let front = front::front(sights::fields(rollback, tick, slot), list);
-    bytes::copy(&front[..10], buf);
-}
-
-// The entries of the slot's declared objects, rising.
-fn entries(words: &[u32], bytes: &[u8], marks: &[bool], size: Size, s: u32, buf: &mut [u8]) {
-    let mut at: u32 = 0;
-    let mut o: u32 = 0;
-    while o < size.objects as u32 {
-        at = entry(o, tables::pair_at(words, bytes, marks, size, s, o), at, buf);
-        o = o + 1;
-    }
-}
-
-// One entry at a place of the list, where its object is declared, and the place behind it.
-fn entry(o: u32, pair: Pair, at: u32, buf: &mut [u8]) -> u32 {
-    if !pair.declared {
-        return at;
-    }
-    let i = at as usize;
-    let version = pair.private;
-    let private = version.0;
-    buf[i] = (o % 256) as u8;
-    buf[i + 1] = (private % 256) as u8;
-    buf[i + 2] = (private / 256 % 256) as u8;
-    buf[i + 3] = (private / 256 / 256 % 256) as u8;
-    buf[i + 4] = (private / 256 / 256 / 256 % 256) as u8;
-    at + 5
 }
 
 // Each object has its turn.
@@ -94,16 +70,20 @@ fn settle(
     size: Size,
     s: u32,
     rollback: bool,
-) {
+)
+    requires { ⌜ Fits size (now words) (now bytes) (now marks) × (s < size .slots) ⌝ }
+    ensures { λ _. ⌜ Become size (now (words .entry)) (now (bytes .entry)) (now (marks .entry)) (now (words .exit)) (now (bytes .exit)) (now (marks .exit)) (eachBelow (size .objects) (λ o t. endCleared size rollback s o t)) ⌝ }
+{
     let mut o: u32 = 0;
     while o < size.objects as u32 {
-        end_one(words, bytes, marks, size, s, o, rollback);
+        settle_one(words, bytes, marks, size, s, o, rollback);
         o = o + 1;
     }
 }
 
-// The turn of one object. The slot is cleared turn by turn: no later turn reads this pair.
-fn end_one(
+// The turn of one object. The slot is cleared turn by turn, since no later turn reads this pair; so the slot that ends
+// may be spoiled with the others that have called the object.
+fn settle_one(
     words: &mut [u32],
     bytes: &mut [u8],
     marks: &mut [bool],
@@ -111,19 +91,13 @@ fn end_one(
     s: u32,
     o: u32,
     rollback: bool,
-) {
+)
+    requires { ⌜ Fits size (now words) (now bytes) (now marks) × (s < size .slots) × (o < size .objects) ⌝ }
+    ensures { λ _. ⌜ Become size (now (words .entry)) (now (bytes .entry)) (now (marks .entry)) (now (words .exit)) (now (bytes .exit)) (now (marks .exit)) (endCleared size rollback s o) ⌝ }
+{
     let pair = tables::pair_at(words, bytes, marks, size, s, o);
-    tables::store_object(
-        words,
-        size,
-        o,
-        ends::object(
-            size.slots,
-            rollback,
-            pair,
-            tables::object_at(words, size, o),
-        ),
-    );
+    let object = ends::object(size.slots, rollback, pair, tables::object_at(words, size, o));
+    tables::store_object(words, size, o, object);
     columns::spoil_callers(marks, size, o, ends::spread(size.slots, rollback, pair));
     tables::store_pair(words, bytes, marks, size, s, o, Pair::none());
 }

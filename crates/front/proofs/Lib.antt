@@ -1,1 +1,2 @@
 pub mod Fronted
+pub mod Splicing

@@ -19,7 +19,7 @@ use Rattle.sights.specs.declared.Sight.{Sight}
 abbrev pub entriesTo : Size → State → ℕ → ℕ → List ℕ
 entriesTo z t s n = joinBelow n (λ o. entryOf o (pairAt z t s o))
 
-entry-few : (o : ℕ) (pair : Pair) → length (entryOf o pair) ≤ 5
+pub entry-few : (o : ℕ) (pair : Pair) → length (entryOf o pair) ≤ 5
 entry-few o pair = go (pair .declared) refl
   where
     go : (d : Bool) → pair .declared ≡ d → length (entryOf o pair) ≤ 5
@@ -71,3 +71,18 @@ sees-on z t s n sight sight′ more e seeing =
           ∙ ap (seen n (pairAt z t s n) (objectAt t n)) (seeing .shows)
           ∙ (λ i. record { doomed = sym (any-next spoiled n) i; unmet = sym (any-next missing n) i; bytes = long i });
     }
+
+-- behind the last object
+pub sees-all : (z : Size) (t : State) (s n : ℕ) (sight : Sight) → z .objects ≤ n → Seeing z t s n sight
+    → (sight ≡ sightOf z t s) × (sight .bytes ≤ 5 * z .objects)
+sees-all z t s n sight all seeing =
+    let every : n ≡ z .objects = omega (arith, seeing .reached) in (
+      seeing .shows
+      ∙ (λ i.
+          record {
+            doomed = anyBelow (every i) (λ o. pairAt z t s o .spoiled);
+            unmet = anyBelow (every i) (λ o. misses (pairAt z t s o) (objectAt t o));
+            bytes = length (entriesTo z t s (every i));
+          }),
+      omega (arith, seeing .few),
+    )

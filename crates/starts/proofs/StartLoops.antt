@@ -14,10 +14,10 @@ use Rattle.answers.specs.Numbers.{accepted}
 use Rattle.answers.specs.Order.{Rule, decide}
 use Rattle.answers.specs.declared.Refusal.{Refusal}
 use Rattle.counters.specs.Sizes.{Size}
-use Rattle.rules.specs.Effects.{declareOne, declareAll, startEffect}
+use Rattle.rules.specs.Effects.{clearSlot, declareOne, declareAll, startEffect}
 use Rattle.rules.specs.Refusing.{pairRules, startRules}
 use Rattle.rules.specs.Steps.{Stepping, unchanged, startStep}
-use Rattle.rules.specs.Tables.{State, liveAt}
+use Rattle.rules.specs.Tables.{State, liveAt, withLive}
 use Rattle.starts.proofs.PairWalk.{pair-first}
 use Rattle.verdicts.proofs.Saying.{when-refuses}
 use Rattle.verdicts.specs.declared.Verdict.{Verdict}
@@ -45,7 +45,7 @@ declare-none z s (object ∷ supremum ∷ rest) t none = absurd (omega arith)
 declare-none z s (object ∷ []) t none = refl
 declare-none z s [] t none = refl
 
-module _ (z : Size) (s : ℕ) (list : List ℕ) (next : ℕ) (t₀ t : State) (declaring : Declaring z s list next t₀ t) where
+module _ {z : Size} {s : ℕ} {list : List ℕ} {next : ℕ} {t₀ t : State} (declaring : Declaring z s list next t₀ t) where
   module _ (more : 1 < length list - next) where
     left-within : Within (z .objects) (getD list next 0 ∷ getD list (next + 1) 0 ∷ drop (next + 2) list)
     left-within = rw (pair-first list next more) at (declaring .within)
@@ -55,14 +55,14 @@ module _ (z : Size) (s : ℕ) (list : List ℕ) (next : ℕ) (t₀ t : State) (d
 
     -- a turn
     pub declares-on : (u : State) → u ≡ declareOne z s (getD list next 0) (getD list (next + 1) 0) t → Declaring z s list (next + 2) t₀ u
-    declares-on u is-one =
+    declares-on u one =
         record {
           reached = omega arith;
           within = left-within .1;
           declared =
               declaring .declared
               ∙ ap (λ (l : List ℕ). declareAll z s l t) (pair-first list next more)
-              ∙ ap (declareAll z s (drop (next + 2) list)) (sym is-one);
+              ∙ ap (declareAll z s (drop (next + 2) list)) (sym one);
         }
 
   pub declares-all : length list - next ≤ 1 → t ≡ declareAll z s list t₀
@@ -77,35 +77,38 @@ all-pass rules e = go (decided rules)
         let clash : _≡_ {A = ℕ} 0 1 = cc (r .gives Refuses Passes) in
         absurd (omega arith)
 
-abbrev begun : Size → State → List ℕ → ℕ → Stepping
-begun z t list s = record { tables = startEffect z s list t; reply = accepted 0 }
+-- the verdict on a start in t, by the slot that is looked at, which is the event's where the event's is in range
+pub record Judged (z : Size) (t : State) (slot s : ℕ) (list : List ℕ) (live : Bool) (verdict : Verdict) : Type 0 where
+  pub right-slot : slot < z .slots → s ≡ slot
+  pub is-live : live ≡ liveAt t s
+  pub is-verdict : verdict ≡ decide (startRules z slot live list) Refuses Passes
 
--- the verdict is that of the slot that is looked at, which is the event's where the event's is in range
-module _ (z : Size) (t : State) (slot s : ℕ) (list : List ℕ) (right-slot : slot < z .slots → s ≡ slot) where
-  same-rules : {A : Type 0} (refused : Refusal → A) (accepted : A)
-      → decide (startRules z slot (liveAt t s) list) refused accepted ≡ decide (startRules z slot (liveAt t slot) list) refused accepted
-  same-rules refused accepted = by-slot (leb (z .slots) slot) refl
+module _ {z : Size} {t : State} {slot s : ℕ} {list : List ℕ} {live : Bool} {verdict : Verdict} (judged : Judged z t slot s list live verdict) where
+  abbrev rules : List Rule
+  rules = startRules z slot live list
+
+  abbrev begun : ℕ → Stepping
+  begun r = record { tables = startEffect z r list t; reply = accepted 0 }
+
+  same-rules : decide rules (unchanged t) (begun slot) ≡ startStep z t slot list
+  same-rules = by-slot (leb (z .slots) slot) refl
     where
-      by-slot : (test : Bool) → leb (z .slots) slot ≡ test
-          → decide (startRules z slot (liveAt t s) list) refused accepted ≡ decide (startRules z slot (liveAt t slot) list) refused accepted
+      by-slot : (test : Bool) → leb (z .slots) slot ≡ test → decide rules (unchanged t) (begun slot) ≡ startStep z t slot list
       by-slot true e = rw e
-      by-slot false e = rw (right-slot (leb-false _ _ e))
+      by-slot false e = rw (judged .is-live, judged .right-slot (leb-false _ _ e))
 
-  module _ (verdict : Verdict) (is-verdict : verdict ≡ decide (startRules z slot (liveAt t s) list) Refuses Passes) where
-    pub start-refused : (refusal : Refusal) → verdict ≡ Refuses refusal → unchanged t refusal ≡ startStep z t slot list
-    start-refused refusal refuses =
-        sym (when-refuses (startRules z slot (liveAt t s) list) refusal (sym is-verdict ∙ refuses) (unchanged t) (begun z t list slot))
-        ∙ same-rules (unchanged t) (begun z t list slot)
+  pub start-refused : {refusal : Refusal} → verdict ≡ Refuses refusal → unchanged t refusal ≡ startStep z t slot list
+  start-refused {refusal} refuses = sym (when-refuses rules refusal (sym (judged .is-verdict) ∙ refuses) (unchanged t) (begun slot)) ∙ same-rules
 
-    module _ (passes : verdict ≡ Passes) where
-      passed : deciding.Passes (startRules z slot (liveAt t s) list)
-      passed = all-pass (startRules z slot (liveAt t s) list) (sym is-verdict ∙ passes)
+  module _ (passes : verdict ≡ Passes) where
+    passed : deciding.Passes rules
+    passed = all-pass rules (sym (judged .is-verdict) ∙ passes)
 
-      pub list-within : Within (z .objects) list
-      list-within = passed-within z 0 list (passed .1 .1 .1)
+    pub list-within : Within (z .objects) list
+    list-within = passed-within z 0 list (passed .1 .1 .1)
 
-      pub start-passed : begun z t list s ≡ startStep z t slot list
-      start-passed =
-          ap (begun z t list) (right-slot (leb-false _ _ (passed .0)))
-          ∙ sym (deciding.passed (startRules z slot (liveAt t s) list) (unchanged t) (begun z t list slot) passed)
-          ∙ same-rules (unchanged t) (begun z t list slot)
+    pub start-passed : (t₁ t₂ t₃ : State) → t₁ ≡ clearSlot z s t → t₂ ≡ declareAll z s list t₁ → t₃ ≡ withLive t₂ s true
+        → record { tables = t₃; reply = accepted 0 } ≡ startStep z t slot list
+    start-passed t₁ t₂ t₃ cleared declared lives =
+        rw (lives, declared, cleared)
+        (ap begun (judged .right-slot (leb-false _ _ (passed .0))) ∙ sym (deciding.passed rules (unchanged t) (begun slot) passed) ∙ same-rules)

@@ -1,2 +1,1 @@
-pub mod Splicing
 pub mod Unique

@@ -21,7 +21,6 @@
 //! ```
 #![no_std]
 #![warn(missing_docs)]
-#![allow(clippy::too_many_arguments)]
 
 mod answers;
 mod raw;
@@ -36,7 +35,7 @@ pub const SLOTS: usize = 16;
 pub const OBJECTS: usize = 24;
 /// The longest record of an end: a buffer of this length always has room.
 pub const END_BYTES: usize = 130;
-/// The places of the tables, by their type.
+/// The words of the tables: those of the objects, their versions, and two for each pair.
 pub const WORDS: usize = 4 * OBJECTS + 2 * SLOTS * OBJECTS;
 /// The bytes of the tables.
 pub const BYTES: usize = 2 * SLOTS * OBJECTS;

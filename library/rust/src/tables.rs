@@ -67,26 +67,19 @@ impl Tables {
     /// Fresh tables: a word for each object, all versions the first one, no slot live.
     pub fn fresh(first: u32, words: &[u32; OBJECTS]) -> Self {
         let mut tables = Tables::new();
+        let (places, bytes, marks) = tables.parts();
         // SAFETY: as the type says.
-        unsafe {
-            raw::gustlantern_raw_fresh(
-                &mut tables.words,
-                &mut tables.bytes,
-                &mut tables.marks,
-                first,
-                words,
-            )
-        };
+        unsafe { raw::gustlantern_raw_fresh(places, bytes, marks, first, words) };
         tables
+    }
+
+    fn parts(&mut self) -> (&mut [u32; WORDS], &mut [u8; BYTES], &mut [bool; MARKS]) {
+        (&mut self.words, &mut self.bytes, &mut self.marks)
     }
 
     /// A transaction begins; the list holds pairs of bytes, object and supremum, objects rising. 1, 4, 3, 2.
     pub fn start(&mut self, slot: u8, list: &[u8]) -> Result<(), Refusal> {
-        let Tables {
-            words,
-            bytes,
-            marks,
-        } = self;
+        let (words, bytes, marks) = self.parts();
         // SAFETY: as the type says; the list is read within its length.
         let number = unsafe {
             raw::gustlantern_raw_start(words, bytes, marks, slot, list.as_ptr(), list.len() as u64)
@@ -102,23 +95,12 @@ impl Tables {
         kind: impl Into<u8>,
         argument: u32,
     ) -> Result<u32, Refusal> {
-        let Tables {
-            words,
-            bytes,
-            marks,
-        } = self;
-        let mut value = 0;
+        let (words, bytes, marks) = self.parts();
+        let (kind, mut value) = (kind.into(), 0);
         // SAFETY: as the type says.
         let number = unsafe {
             raw::gustlantern_raw_call(
-                words,
-                bytes,
-                marks,
-                slot,
-                object,
-                kind.into(),
-                argument,
-                &mut value,
+                words, bytes, marks, slot, object, kind, argument, &mut value,
             )
         };
         answer(number, value)
@@ -126,11 +108,7 @@ impl Tables {
 
     /// The object is let go before its supremum is reached. 1, 5, 2, 6, 8, 10.
     pub fn release(&mut self, slot: u8, object: u8) -> Result<(), Refusal> {
-        let Tables {
-            words,
-            bytes,
-            marks,
-        } = self;
+        let (words, bytes, marks) = self.parts();
         // SAFETY: as the type says.
         let number = unsafe { raw::gustlantern_raw_release(words, bytes, marks, slot, object) };
         answer(number, 0).map(|_| ())
@@ -138,11 +116,7 @@ impl Tables {
 
     /// The transaction ends; its record stands at the buffer's first byte, and its length comes back. 1, 5, 9, 10, 11.
     pub fn commit(&mut self, slot: u8, tick: u32, ends: &mut [u8]) -> Result<u32, Refusal> {
-        let Tables {
-            words,
-            bytes,
-            marks,
-        } = self;
+        let (words, bytes, marks) = self.parts();
         let (place, room, mut value) = (ends.as_mut_ptr(), ends.len() as u64, 0);
         // SAFETY: as the type says; the buffer is written within its length.
         let number = unsafe {
@@ -153,11 +127,7 @@ impl Tables {
 
     /// The same, and the words that it changed are put back. 1, 5, 10, 11.
     pub fn rollback(&mut self, slot: u8, tick: u32, ends: &mut [u8]) -> Result<u32, Refusal> {
-        let Tables {
-            words,
-            bytes,
-            marks,
-        } = self;
+        let (words, bytes, marks) = self.parts();
         let (place, room, mut value) = (ends.as_mut_ptr(), ends.len() as u64, 0);
         // SAFETY: as the type says; the buffer is written within its length.
         let number = unsafe {
@@ -168,11 +138,7 @@ impl Tables {
 
     /// The event whose record the bytes begin with; bytes behind it don't matter. 12, or as the event's method.
     pub fn step(&mut self, record: &[u8], ends: &mut [u8]) -> Result<u32, Refusal> {
-        let Tables {
-            words,
-            bytes,
-            marks,
-        } = self;
+        let (words, bytes, marks) = self.parts();
         let (given, length) = (record.as_ptr(), record.len() as u64);
         let (place, room, mut value) = (ends.as_mut_ptr(), ends.len() as u64, 0);
         // SAFETY: as the type says; both slices are used within their lengths, and one that is lent for writing
@@ -199,12 +165,8 @@ impl Tables {
 
     /// A look at a slot's pair on an object. 1, 2.
     pub fn pair(&self, slot: u8, object: u8) -> Result<Pair, Refusal> {
+        let (words, bytes, marks) = (&self.words, &self.bytes, &self.marks);
         let mut seen = [0; 8];
-        let Tables {
-            words,
-            bytes,
-            marks,
-        } = self;
         // SAFETY: as the type says.
         let number =
             unsafe { raw::gustlantern_raw_pair(words, bytes, marks, slot, object, &mut seen) };

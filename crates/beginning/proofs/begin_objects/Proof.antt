@@ -1,58 +1,59 @@
+-- `beginning::begin_objects` meets its promise.
+use Prim.Native.Nat.{ℕ, _-_, _≤_}
+use mathlib.Core.Path.{_≡_, sym, ap, _∙_}
+use native.Mathlib.Omega.{arith}
+use Rattle.rules.proofs.Walking.{each-zero, each-next}
+use Rattle.rules.specs.Walks.{eachBelow}
+use Rattle.tables.specs.Views.{view, WordsBecome}
+use Rattle.beginning.specs.Beginnings.{beginObject}
+use borrow.Author.Needs.{needs}
 use Rattle.beginning.proofs.begin_objects.Statement.{statement}
 use Rattle.beginning.proofs.begin_objects.Tie as tie
-use Rattle.beginning.proofs.begin_objects.Reads as reads
-use Rattle.beginning.proofs.begin_objects.Lts as lts
-use Rattle.tables.proofs.store_object.Reads as store-object-reads
 
 abbrev Inv-loop : tie.InvT-loop
-Inv-loop words₀ size first given o₀ words o = ?
+Inv-loop words₀ size first given o₀ words o = (o ≤ size .objects) × WordsBecome size words₀ words (eachBelow o (beginObject (first .0) given))
 
 abbrev μ-loop : tie.MeasureT-loop
-μ-loop words₀ size first given o₀ words o = ?
+μ-loop words₀ size first given o₀ words o = size .objects - o
 
--- src/lib.rt:116:5
+abbrev begin : tie.At-loop Inv-loop μ-loop → tie.Start Inv-loop μ-loop
+begin top = top .before .before .before
+
 loop-holds : tie.Need-loop-holds Inv-loop μ-loop
-loop-holds c = ?
+loop-holds c =
+    let start = c .before .before in
+    let a = start .args in
+    (omega arith, (start .pre .0, λ b k. sym (each-zero (beginObject (a .first .0) (a .given .now)) (view (a .size) (a .words .now) b k))))
 
--- src/lib.rt:116:15
-cast-if1 : tie.Need-cast-if1 Inv-loop μ-loop
-cast-if1 c = ?
-
--- src/lib.rt:118:25
-cast-t9 : tie.Need-cast-t9 Inv-loop μ-loop
-cast-t9 c = ?
-
--- src/lib.rt:118:19
-mul-t10 : tie.Need-mul-t10 Inv-loop μ-loop
-mul-t10 c = ?
-
--- src/lib.rt:118:19
-shared-slice-read-t7 : tie.Need-shared-slice-read-t7 Inv-loop μ-loop
-shared-slice-read-t7 c = ?
-
--- src/lib.rt:123:9
-store-object-requires : tie.Need-store-object-requires Inv-loop μ-loop
-store-object-requires c κs = ?
-
--- src/lib.rt:124:13
-add-o : tie.Need-add-o Inv-loop μ-loop
-add-o c = ?
-
--- src/lib.rt:116:5
-loop-less : tie.Need-loop-less Inv-loop μ-loop
-loop-less c = ?
-
--- src/lib.rt:116:5
 loop-again : tie.Need-loop-again Inv-loop μ-loop
-loop-again c = ?
+loop-again c =
+    let stored = c .before .before in
+    let turn = stored .before .before .before in
+    let top = turn .before .before in
+    let met = top .loop in
+    let a = begin top .args in
+    let one = beginObject (a .first .0) (a .given .now) in
+    (
+      omega (arith, turn .if1 .taken),
+      (
+        stored .store-object .ensures .0,
+        λ b k.
+            stored .store-object .ensures .1 b k
+            ∙ ap (one (met .o)) (met .inv .1 .1 b k)
+            ∙ sym (each-next one (view (a .size) (a .words .now) b k) (met .o)),
+      ),
+    )
 
--- src/lib.rt:111:1
-same-length : tie.Need-same-length Inv-loop μ-loop
-same-length c = ?
-
--- src/lib.rt:111:1
 returns : tie.Need-returns Inv-loop μ-loop
-returns c = ?
+returns c =
+    let top = c .before .before in
+    let met = top .loop in
+    let a = begin top .args in
+    let all : met .o ≡ a .size .objects = omega (arith, met .inv .0, c .if1 .left) in
+    (
+      met .inv .1 .0,
+      λ b k. met .inv .1 .1 b k ∙ ap (λ (n : ℕ). eachBelow n (beginObject (a .first .0) (a .given .now)) (view (a .size) (a .words .now) b k)) all,
+    )
 
 pub begin-objects-spec : {M : Type 1} → statement M
 begin-objects-spec =
@@ -61,13 +62,13 @@ begin-objects-spec =
     Inv-loop
     μ-loop
     loop-holds
-    cast-if1
-    cast-t9
-    mul-t10
-    shared-slice-read-t7
-    store-object-requires
-    add-o
-    loop-less
+    (λ c. search needs)
+    (λ c. search needs)
+    (λ c. search needs)
+    (λ c. search needs)
+    (λ c κs. search needs)
+    (λ c. search needs)
+    (λ c. search needs)
     loop-again
-    same-length
+    (λ c. search needs)
     returns)

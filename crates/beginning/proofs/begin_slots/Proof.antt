@@ -1,59 +1,45 @@
+-- `beginning::begin_slots` meets its promise.
+use Prim.Native.Nat.{_-_}
+use mathlib.Core.Bool.{false}
+use Rattle.rules.specs.Tables.{withLive}
+use Rattle.tables.specs.Views.{view}
+use Rattle.beginning.specs.Beginnings.{beginSlot}
+use Rattle.beginning.proofs.Walk.{Walk, walk-first, walk-on, walk-done}
+use borrow.Author.Needs.{needs}
 use Rattle.beginning.proofs.begin_slots.Statement.{statement}
 use Rattle.beginning.proofs.begin_slots.Tie as tie
-use Rattle.beginning.proofs.begin_slots.Reads as reads
-use Rattle.beginning.proofs.begin_slots.Lts as lts
-use Rattle.beginning.proofs.clear.Reads as clear-reads
-use Rattle.tables.proofs.store_live.Reads as store-live-reads
 
 abbrev Inv-loop : tie.InvT-loop
-Inv-loop words₀ bytes₀ marks₀ size s₀ words bytes marks s = ?
+Inv-loop words₀ bytes₀ marks₀ size s₀ words bytes marks s = Walk size (beginSlot size) (size .slots) words₀ bytes₀ marks₀ s words bytes marks
 
 abbrev μ-loop : tie.MeasureT-loop
-μ-loop words₀ bytes₀ marks₀ size s₀ words bytes marks s = ?
+μ-loop words₀ bytes₀ marks₀ size s₀ words bytes marks s = size .slots - s
 
--- src/lib.rt:134:5
 loop-holds : tie.Need-loop-holds Inv-loop μ-loop
-loop-holds c = ?
+loop-holds c = walk-first (c .before .before .before .pre)
 
--- src/lib.rt:134:15
-cast-if1 : tie.Need-cast-if1 Inv-loop μ-loop
-cast-if1 c = ?
-
--- src/lib.rt:135:9
 clear-requires : tie.Need-clear-requires Inv-loop μ-loop
-clear-requires c κs = ?
+clear-requires c κs =
+    let turn = c .before .before .before in
+    (turn .before .before .loop .inv .become .0, turn .if1 .taken)
 
--- src/lib.rt:136:9
-store-live-requires : tie.Need-store-live-requires Inv-loop μ-loop
-store-live-requires c κs = ?
-
--- src/lib.rt:137:13
-add-s : tie.Need-add-s Inv-loop μ-loop
-add-s c = ?
-
--- src/lib.rt:134:5
-loop-less : tie.Need-loop-less Inv-loop μ-loop
-loop-less c = ?
-
--- src/lib.rt:134:5
 loop-again : tie.Need-loop-again Inv-loop μ-loop
-loop-again c = ?
+loop-again c =
+    let stored = c .before .before in
+    let cleared = stored .before .before .before .before .before .before .before .before in
+    let turn = cleared .before .before .before .before in
+    let top = turn .before .before in
+    let met = top .loop in
+    let size = top .before .before .before .before .args .size in
+    let w = cleared .clear .last .0 in
+    let b = cleared .clear .last .1 .0 in
+    let k = cleared .clear .last .1 .1 .0 in
+    let fits = cleared .clear .ensures .0 in
+    walk-on (met .inv) w b (stored .store-live .last .0) (withLive (view size w b k) (met .s) false) (turn .if1 .taken)
+    (fits .0, fits .1, stored .store-live .ensures .0) (stored .store-live .ensures .1 w b) (λ i. withLive (cleared .clear .ensures .1 i) (met .s) false)
 
--- src/lib.rt:129:1
-same-length : tie.Need-same-length Inv-loop μ-loop
-same-length c = ?
-
--- src/lib.rt:129:1
-same-length-2 : tie.Need-same-length-2 Inv-loop μ-loop
-same-length-2 c = ?
-
--- src/lib.rt:129:1
-same-length-3 : tie.Need-same-length-3 Inv-loop μ-loop
-same-length-3 c = ?
-
--- src/lib.rt:129:1
 returns : tie.Need-returns Inv-loop μ-loop
-returns c = ?
+returns c = walk-done (c .before .before .loop .inv) (c .if1 .left)
 
 pub begin-slots-spec : {M : Type 1} → statement M
 begin-slots-spec =
@@ -62,13 +48,13 @@ begin-slots-spec =
     Inv-loop
     μ-loop
     loop-holds
-    cast-if1
+    (λ c. search needs)
     clear-requires
-    store-live-requires
-    add-s
-    loop-less
+    (λ c κs. search needs)
+    (λ c. search needs)
+    (λ c. search needs)
     loop-again
-    same-length
-    same-length-2
-    same-length-3
+    (λ c. search needs)
+    (λ c. search needs)
+    (λ c. search needs)
     returns)

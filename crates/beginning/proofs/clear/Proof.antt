@@ -1,9 +1,6 @@
 -- `beginning::clear` meets its promise.
 use Prim.Native.Nat.{_-_}
-use mathlib.Core.Path.{sym, ap, _∙_}
-use native.Mathlib.Omega.{arith}
 use Rattle.objects.specs.Places.{noPair}
-use Rattle.objects.specs.declared.Pair.{Pair}
 use Rattle.rules.specs.Tables.{withPair}
 use Rattle.tables.specs.Views.{view}
 use Rattle.beginning.proofs.Walk.{Walk, walk-first, walk-on, walk-done}
@@ -12,7 +9,7 @@ use Rattle.beginning.proofs.clear.Statement.{statement}
 use Rattle.beginning.proofs.clear.Tie as tie
 
 abbrev Inv-loop : tie.InvT-loop
-Inv-loop words₀ bytes₀ marks₀ size s o₀ words bytes marks o = Walk size (λ o t. withPair size t s o noPair) (size .objects) words₀ bytes₀ marks₀ o words bytes marks
+Inv-loop words₀ bytes₀ marks₀ size s o₀ words bytes marks o = Walk size (λ q t. withPair size t s q noPair) (size .objects) words₀ bytes₀ marks₀ o words bytes marks
 
 abbrev μ-loop : tie.MeasureT-loop
 μ-loop words₀ bytes₀ marks₀ size s o₀ words bytes marks o = size .objects - o
@@ -21,10 +18,7 @@ abbrev begin : tie.At-loop Inv-loop μ-loop → tie.Start Inv-loop μ-loop
 begin top = top .before .before .before .before
 
 loop-holds : tie.Need-loop-holds Inv-loop μ-loop
-loop-holds c =
-    let start = c .before .before .before in
-    let a = start .args in
-    walk-first (a .size) (λ o t. withPair (a .size) t (a .s) o noPair) (a .size .objects) (a .words .now) (a .bytes .now) (a .marks .now) (start .pre .0)
+loop-holds c = walk-first (c .before .before .before .pre .0)
 
 store-pair-requires : tie.Need-store-pair-requires Inv-loop μ-loop
 store-pair-requires c κs =
@@ -38,22 +32,15 @@ loop-again c =
     let none = stored .before in
     let turn = none .before .before .before .before in
     let top = turn .before .before in
-    let a = begin top .args in
     let met = top .loop in
-    walk-on (a .size) (λ o t. withPair (a .size) t (a .s) o noPair) (a .size .objects) (a .words .now) (a .bytes .now) (a .marks .now)
-    (met .o) (met .words) (met .bytes) (met .marks) (met .inv)
-    (stored .store-pair .last .0) (stored .store-pair .last .1 .0) (stored .store-pair .last .1 .1 .0) (turn .if1 .taken)
-    (stored .store-pair .ensures .0,
-    stored .store-pair .ensures .1
-    ∙ ap (λ (p : Pair). withPair (a .size) (view (a .size) (met .words) (met .bytes) (met .marks)) (a .s) (met .o) p) (none .none .ensures))
+    let a = begin top .args in
+    let t = view (a .size) (met .words) (met .bytes) (met .marks) in
+    walk-on (met .inv) (stored .store-pair .last .0) (stored .store-pair .last .1 .0) (stored .store-pair .last .1 .1 .0)
+    (withPair (a .size) t (a .s) (met .o) (none .none .result)) (turn .if1 .taken) (stored .store-pair .ensures .0) (stored .store-pair .ensures .1)
+    (λ i. withPair (a .size) t (a .s) (met .o) (none .none .ensures i))
 
 returns : tie.Need-returns Inv-loop μ-loop
-returns c =
-    let top = c .before .before in
-    let a = begin top .args in
-    let met = top .loop in
-    walk-done (a .size) (λ o t. withPair (a .size) t (a .s) o noPair) (a .size .objects) (a .words .now) (a .bytes .now) (a .marks .now)
-    (met .o) (met .words) (met .bytes) (met .marks) (met .inv) (c .if1 .left)
+returns c = walk-done (c .before .before .loop .inv) (c .if1 .left)
 
 pub clear-spec : {M : Type 1} → statement M
 clear-spec =

@@ -1,60 +1,59 @@
+-- `beginning::declare` meets its promise.
+use Prim.Native.Nat.{ℕ}
+use mathlib.Core.Path.{_≡_}
+use Rattle.counters.specs.Sizes.{Size}
+use Rattle.objects.specs.Places.{givenOut, declaredWith}
+use Rattle.objects.specs.declared.Object.{Object}
+use Rattle.objects.specs.declared.Pair.{Pair}
+use Rattle.rules.specs.Effects.{declareOne}
+use Rattle.rules.specs.Tables.{State, objectAt, withObject, withPair}
+use Rattle.tables.specs.Views.{view}
 use borrow.Author.Needs.{needs}
 use Rattle.beginning.proofs.declare.Statement.{statement}
 use Rattle.beginning.proofs.declare.Tie as tie
-use Rattle.beginning.proofs.declare.Reads as reads
-use Rattle.beginning.proofs.declare.Lts as lts
-use Rattle.objects.proofs.Object.give_out.Reads as give-out-reads
-use Rattle.objects.proofs.Pair.declare.Reads as declare-reads
-use Rattle.tables.proofs.object_at.Reads as object-at-reads
-use Rattle.tables.proofs.store_object.Reads as store-object-reads
-use Rattle.tables.proofs.store_pair.Reads as store-pair-reads
 
--- src/lib.rt:88:17
-object-at-requires : tie.Need-object-at-requires
-object-at-requires c κs = search needs
+one-declared : (z : Size) (s o supremum : ℕ) (x given : Object) (pair : Pair) (t t₁ t₂ : State)
+    → x ≡ objectAt t o → given ≡ givenOut x → pair ≡ declaredWith supremum (given .global)
+    → t₁ ≡ withObject t o given → t₂ ≡ withPair z t₁ s o pair → t₂ ≡ declareOne z s o supremum t
+one-declared z s o supremum x given pair t t₁ t₂ is-x is-given is-pair is-t₁ is-t₂ = rw (is-t₂, is-t₁, is-pair, is-given, is-x)
 
--- src/lib.rt:88:9
-give-out-requires : tie.Need-give-out-requires
-give-out-requires c κs = search needs
+abbrev begin : tie.After-store-object → tie.Start
+begin c = c .before .before .before .before .before .before .before .before .before
 
--- src/lib.rt:90:5
-store-object-requires : tie.Need-store-object-requires
-store-object-requires c κs = search needs
-
--- src/lib.rt:91:57
-declare-requires : tie.Need-declare-requires
-declare-requires c κs = search needs
-
--- src/lib.rt:91:5
 store-pair-requires : tie.Need-store-pair-requires
-store-pair-requires c κs = ?
+store-pair-requires c κs =
+    let stored = c .before .before .before .before .before .before in
+    let pre = begin stored .pre in
+    ((stored .store-object .ensures .0, pre .0 .1, pre .0 .2), pre .1, pre .2)
 
--- src/lib.rt:76:1
-same-length : tie.Need-same-length
-same-length c = search needs
-
--- src/lib.rt:76:1
-same-length-2 : tie.Need-same-length-2
-same-length-2 c = search needs
-
--- src/lib.rt:76:1
-same-length-3 : tie.Need-same-length-3
-same-length-3 c = search needs
-
--- src/lib.rt:76:1
 returns : tie.Need-returns
-returns c = ?
+returns c =
+    let last = c .before .before .before .before .before .before in
+    let pair = last .before in
+    let stored = pair .before .before .before .before .before .before in
+    let given = stored .before .before .before in
+    let object = given .before in
+    let a = begin stored .args in
+    let b = a .bytes .now in
+    let k = a .marks .now in
+    (
+      last .store-pair .ensures .0,
+      one-declared (a .size) (a .s) (a .o) (a .supremum) (object .object-at .result) (given .give-out .result) (pair .declare .result)
+          (view (a .size) (a .words .now) b k) (view (a .size) (stored .store-object .last .0) b k)
+          (view (a .size) (last .store-pair .last .0) (last .store-pair .last .1 .0) (last .store-pair .last .1 .1 .0))
+          (object .object-at .ensures) (given .give-out .ensures) (pair .declare .ensures) (stored .store-object .ensures .1 b k) (last .store-pair .ensures .1),
+    )
 
 pub declare-spec : {M : Type 1} → statement M
 declare-spec =
     tie.close
     (tie.spec
-    object-at-requires
-    give-out-requires
-    store-object-requires
-    declare-requires
+    (λ c κs. search needs)
+    (λ c κs. search needs)
+    (λ c κs. search needs)
+    (λ c κs. search needs)
     store-pair-requires
-    same-length
-    same-length-2
-    same-length-3
+    (λ c. search needs)
+    (λ c. search needs)
+    (λ c. search needs)
     returns)

@@ -1,70 +1,53 @@
+-- `beginning::declare_all` meets its promise.
+use Prim.Native.Nat.{_-_, _<_}
+use mathlib.Core.Path.{refl}
+use native.Mathlib.Omega.{arith}
+use lib.ListN.{length, getD}
+use Rattle.starts.proofs.StartLoops.{Declaring, next-within, declares-on, declares-all}
+use Rattle.tables.specs.Places.{Fits}
+use Rattle.tables.specs.Views.{view}
+use borrow.Author.Needs.{needs}
 use Rattle.beginning.proofs.declare_all.Statement.{statement}
 use Rattle.beginning.proofs.declare_all.Tie as tie
-use Rattle.beginning.proofs.declare_all.Reads as reads
-use Rattle.beginning.proofs.declare_all.Lts as lts
-use Rattle.beginning.proofs.declare.Reads as declare-reads
 
 abbrev Inv-loop : tie.InvT-loop
-Inv-loop words₀ bytes₀ marks₀ size s list next₀ words bytes marks next = ?
+Inv-loop words₀ bytes₀ marks₀ size s list next₀ words bytes marks next =
+    Fits size words bytes marks × Declaring size s list next (view size words₀ bytes₀ marks₀) (view size words bytes marks)
 
 abbrev μ-loop : tie.MeasureT-loop
-μ-loop words₀ bytes₀ marks₀ size s list next₀ words bytes marks next = ?
+μ-loop words₀ bytes₀ marks₀ size s list next₀ words bytes marks next = length list - next
 
--- src/lib.rt:70:5
+abbrev begin : tie.At-loop Inv-loop μ-loop → tie.Start Inv-loop μ-loop
+begin top = top .before .before .before .before .before
+
 loop-holds : tie.Need-loop-holds Inv-loop μ-loop
-loop-holds c = ?
+loop-holds c =
+    let pre = c .before .before .before .before .pre in
+    (pre .0, record { reached = omega arith; within = pre .2; declared = refl })
 
--- src/lib.rt:70:15
-sub-loop : tie.Need-sub-loop Inv-loop μ-loop
-sub-loop c = ?
+-- the object of this turn is in range
+inside : (turn : tie.In-loop Inv-loop μ-loop) → getD (begin (turn .before) .args .list .now) (turn .before .loop .next) 0 < begin (turn .before) .args .size .objects
+inside turn = next-within (turn .before .loop .inv .1) (turn .loop-test .taken)
 
--- src/lib.rt:71:47
-shared-slice-read-declare : tie.Need-shared-slice-read-declare Inv-loop μ-loop
-shared-slice-read-declare c = ?
-
--- src/lib.rt:71:47
 cast-declare : tie.Need-cast-declare Inv-loop μ-loop
-cast-declare c = ?
+cast-declare c = omega (arith, inside (c .before .before .before .before))
 
--- src/lib.rt:71:71
-add-declare : tie.Need-add-declare Inv-loop μ-loop
-add-declare c = ?
-
--- src/lib.rt:71:66
-shared-slice-read-declare-2 : tie.Need-shared-slice-read-declare-2 Inv-loop μ-loop
-shared-slice-read-declare-2 c = ?
-
--- src/lib.rt:71:9
 declare-requires : tie.Need-declare-requires Inv-loop μ-loop
-declare-requires c κs = ?
+declare-requires c κs =
+    let turn = c .before .before .before .before .before in
+    (turn .before .loop .inv .0, begin (turn .before) .pre .1, inside turn)
 
--- src/lib.rt:72:16
-add-next : tie.Need-add-next Inv-loop μ-loop
-add-next c = ?
-
--- src/lib.rt:70:5
-loop-less : tie.Need-loop-less Inv-loop μ-loop
-loop-less c = ?
-
--- src/lib.rt:70:5
 loop-again : tie.Need-loop-again Inv-loop μ-loop
-loop-again c = ?
+loop-again c =
+    let one = c .before .before .before .before .before .before in
+    let turn = one .before .before .before .before .before .before in
+    let t = view (begin (turn .before) .args .size) (one .declare .last .0) (one .declare .last .1 .0) (one .declare .last .1 .1 .0) in
+    (one .declare .ensures .0, declares-on (turn .before .loop .inv .1) (turn .loop-test .taken) t (one .declare .ensures .1))
 
--- src/lib.rt:58:1
-same-length : tie.Need-same-length Inv-loop μ-loop
-same-length c = ?
-
--- src/lib.rt:58:1
-same-length-2 : tie.Need-same-length-2 Inv-loop μ-loop
-same-length-2 c = ?
-
--- src/lib.rt:58:1
-same-length-3 : tie.Need-same-length-3 Inv-loop μ-loop
-same-length-3 c = ?
-
--- src/lib.rt:58:1
 returns : tie.Need-returns Inv-loop μ-loop
-returns c = ?
+returns c =
+    let met = c .before .loop in
+    (met .inv .0, declares-all (met .inv .1) (c .loop-test .left))
 
 pub declare-all-spec : {M : Type 1} → statement M
 declare-all-spec =
@@ -73,16 +56,16 @@ declare-all-spec =
     Inv-loop
     μ-loop
     loop-holds
-    sub-loop
-    shared-slice-read-declare
+    (λ c. search needs)
+    (λ c. search needs)
     cast-declare
-    add-declare
-    shared-slice-read-declare-2
+    (λ c. search needs)
+    (λ c. search needs)
     declare-requires
-    add-next
-    loop-less
+    (λ c. search needs)
+    (λ c. search needs)
     loop-again
-    same-length
-    same-length-2
-    same-length-3
+    (λ c. search needs)
+    (λ c. search needs)
+    (λ c. search needs)
     returns)

@@ -1,0 +1,3 @@
+pub mod Callers
+pub mod Entered
+pub mod Ended
