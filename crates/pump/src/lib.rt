@@ -1,21 +1,25 @@
-// The machine of the pump, 16 slots and 24 objects, in place.
+// The pump of 16 slots and 24 objects, in place: its memory is lent, and nothing of it is copied.
+ghost use mathlib.Core.Bool.{true, false};
+ghost use mathlib.Core.Path.{_≡_};
+ghost use Rattle.counters.specs.Sizes.{base};
+ghost use Rattle.rules.specs.Tables.{freshTables};
+ghost use Rattle.rules.specs.Steps.{startStep, callStep, releaseStep, endStep};
+ghost use Rattle.pump.specs.Held.{held, left, leftWith};
+
+pub mod events;
+
 use answers::Answer;
-use answers::Refusal;
 use counters::OBJECTS;
 use counters::ObjectNo;
 use counters::SLOTS;
 use counters::Size;
 use counters::SlotNo;
 use counters::Version;
-use layout::fields::Fields;
-use layout::fields::Reading;
 
-fn size() -> Size {
-    Size {
-        slots: SLOTS,
-        objects: OBJECTS,
-    }
-}
+const PUMP: Size = Size {
+    slots: SLOTS,
+    objects: OBJECTS,
+};
 
 pub fn fresh(
     words: &mut [u32; 864],
@@ -23,8 +27,10 @@ pub fn fresh(
     marks: &mut [bool; 1168],
     first: Version,
     given: &[u32; 24],
-) {
-    beginning::fresh(words, bytes, marks, size(), first, given);
+)
+    ensures { λ _. ⌜ held (now (words .exit)) (now (bytes .exit)) (now (marks .exit)) ≡ freshTables base (now (given .entry)) (first .0) ⌝ }
+{
+    beginning::fresh(words, bytes, marks, PUMP, first, given);
 }
 
 pub fn start(
@@ -33,8 +39,10 @@ pub fn start(
     marks: &mut [bool; 1168],
     slot: SlotNo,
     list: &[u8],
-) -> Answer {
-    beginning::start(words, bytes, marks, size(), slot, list)
+) -> Answer
+    ensures { λ r. ⌜ left (now (words .exit)) (now (bytes .exit)) (now (marks .exit)) r ≡ startStep base (held (now (words .entry)) (now (bytes .entry)) (now (marks .entry))) (slot .0) (now (list .entry)) ⌝ }
+{
+    beginning::start(words, bytes, marks, PUMP, slot, list)
 }
 
 pub fn call(
@@ -45,8 +53,10 @@ pub fn call(
     number: ObjectNo,
     kind: u8,
     argument: u32,
-) -> Answer {
-    acting::call(words, bytes, marks, size(), slot, number, kind, argument)
+) -> Answer
+    ensures { λ r. ⌜ left (now (words .exit)) (now (bytes .exit)) (now (marks .exit)) r ≡ callStep base (held (now (words .entry)) (now (bytes .entry)) (now (marks .entry))) (slot .0) (number .0) kind argument ⌝ }
+{
+    acting::call(words, bytes, marks, PUMP, slot, number, kind, argument)
 }
 
 pub fn release(
@@ -55,10 +65,13 @@ pub fn release(
     marks: &mut [bool; 1168],
     slot: SlotNo,
     number: ObjectNo,
-) -> Answer {
-    acting::release(words, bytes, marks, size(), slot, number)
+) -> Answer
+    ensures { λ r. ⌜ left (now (words .exit)) (now (bytes .exit)) (now (marks .exit)) r ≡ releaseStep base (held (now (words .entry)) (now (bytes .entry)) (now (marks .entry))) (slot .0) (number .0) ⌝ }
+{
+    acting::release(words, bytes, marks, PUMP, slot, number)
 }
 
+// Commit, and rollback where it is one.
 pub fn end(
     words: &mut [u32; 864],
     bytes: &mut [u8; 768],
@@ -67,45 +80,8 @@ pub fn end(
     tick: u32,
     rollback: bool,
     buf: &mut [u8],
-) -> Answer {
-    ending::end(words, bytes, marks, size(), slot, tick, rollback, buf)
-}
-
-pub fn step(
-    words: &mut [u32; 864],
-    bytes: &mut [u8; 768],
-    marks: &mut [bool; 1168],
-    fields: Fields,
-    list: &[u8],
-    buf: &mut [u8],
-) -> Answer {
-    match fields {
-        Fields::Fresh { first: _ } => Answer::Refused(Refusal::BadRecord),
-        Fields::Start { slot } => start(words, bytes, marks, slot, list),
-        Fields::Call {
-            slot,
-            object,
-            kind,
-            argument,
-        } => call(words, bytes, marks, slot, object, kind, argument),
-        Fields::Release { slot, object } => release(words, bytes, marks, slot, object),
-        Fields::Commit { slot, tick } => end(words, bytes, marks, slot, tick, false, buf),
-        Fields::Rollback { slot, tick } => end(words, bytes, marks, slot, tick, true, buf),
-        Fields::Committed { tick: _, slot: _ } => Answer::Refused(Refusal::BadRecord),
-        Fields::RolledBack { tick: _, slot: _ } => Answer::Refused(Refusal::BadRecord),
-    }
-}
-
-// Bytes behind the record don't matter.
-pub fn step_record(
-    words: &mut [u32; 864],
-    bytes: &mut [u8; 768],
-    marks: &mut [bool; 1168],
-    given: &[u8],
-    buf: &mut [u8],
-) -> Answer {
-    let Reading::Fields(fields) = reader::read(given) else {
-        return Answer::Refused(Refusal::BadRecord);
-    };
-    step(words, bytes, marks, fields, reader::list(given), buf)
+) -> Answer
+    ensures { λ r. ⌜ leftWith (now (words .exit)) (now (bytes .exit)) (now (marks .exit)) r (now (buf .exit)) ≡ endStep base rollback (held (now (words .entry)) (now (bytes .entry)) (now (marks .entry))) (slot .0) tick (now (buf .entry)) ⌝ }
+{
+    ending::end(words, bytes, marks, PUMP, slot, tick, rollback, buf)
 }
