@@ -1,2 +1,1 @@
 pub mod Unique
-pub mod EndStep

@@ -4,11 +4,12 @@ use mathlib.Core.List.{List}
 use Rattle.answers.specs.Numbers.{replyOf}
 use Rattle.rules.specs.Tables.{State}
 use Rattle.rules.specs.Steps.{Stepping, Outcome}
+use Rattle.pump.specs.Held.{held}
 use Rattle.machine.specs.declared.Tables.{Tables}
 use Rattle.machine.specs.declared.Stepped.{Stepped}
 
 abbrev pub view : Tables → State
-view t = record { objects = t .objects; live = t .live; pairs = t .pairs }
+view t = held (t .words) (t .bytes) (t .marks)
 
 abbrev pub told : Stepped → Stepping
 told r = record { tables = view (r .tables); reply = replyOf (r .answer) }

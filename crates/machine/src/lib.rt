@@ -1,25 +1,19 @@
-// The machine: its tables go in with an event, and the new tables come back with the answer.
+// The machine by value: its tables go in with an event, and the new tables come back with the answer. Each step is one copy in and one
+// out around the step in place.
+ghost use mathlib.Core.Bool.{true, false};
 ghost use mathlib.Core.Path.{_≡_};
 ghost use Rattle.counters.specs.Sizes.{base};
-ghost use Rattle.rules.specs.Steps.{callStep, releaseStep};
-ghost use Rattle.machine.specs.Views.{view, told};
-
-pub mod ending;
-pub mod starting;
-
+ghost use Rattle.rules.specs.Steps.{startStep, callStep, releaseStep, endStep};
+ghost use Rattle.machine.specs.Views.{view, told, ended};
 use answers::Answer;
-use counters::OBJECTS;
 use counters::ObjectNo;
-use counters::SLOTS;
 use counters::SlotNo;
-use objects::Object;
-use objects::Pair;
 
-// The pair of slot s and object o stands at s * 24 + o.
+// The pump's memory.
 pub struct Tables {
-    pub objects: [Object; 24],
-    pub live: [bool; 16],
-    pub pairs: [Pair; 384],
+    pub words: [u32; 864],
+    pub bytes: [u8; 768],
+    pub marks: [bool; 1168],
 }
 
 pub struct Stepped {
@@ -28,60 +22,82 @@ pub struct Stepped {
 }
 
 impl Tables {
-    // A call, by the kinds table.
-    pub fn call(mut self, slot: SlotNo, number: ObjectNo, kind: u8, argument: u32) -> Stepped
-        ensures { λ r. ⌜ told r ≡ callStep base (view self) (slot .0) (number .0) kind argument ⌝ }
+    pub fn start(self, slot: SlotNo, list: &[u8]) -> Stepped
+        ensures { λ r. ⌜ told r ≡ startStep base (view self) (slot .0) (now (list .entry)) ⌝ }
     {
-        let s = (slot.0 % SLOTS) as usize;
-        let o = (number.0 % OBJECTS) as usize;
-        let from = s * 24;
-        let mut doomed = false;
-        let mut at: usize = 0;
-        while at < 24 {
-            doomed = verdicts::either(doomed, self.pairs[from + at].spoiled);
-            at = at + 1;
-        }
-        let place = from + o;
-        let pair = self.pairs[place];
-        let plan = plans::call(
-            slot,
-            number,
-            kind,
-            argument,
-            self.live[s],
-            doomed,
-            pair,
-            self.objects[o],
-        );
-        let next = plan.object;
-        let next_pair = plan.pair;
-        let answer = plan.answer;
-        self.objects[o] = next;
-        self.pairs[place] = next_pair;
+        let mut words = self.words;
+        let mut bytes = self.bytes;
+        let mut marks = self.marks;
+        let answer = pump::start(&mut words, &mut bytes, &mut marks, slot, list);
         Stepped {
-            tables: self,
+            tables: Tables {
+                words,
+                bytes,
+                marks,
+            },
             answer,
         }
     }
 
-    // The object is let go.
-    pub fn release(mut self, slot: SlotNo, number: ObjectNo) -> Stepped
+    pub fn call(self, slot: SlotNo, number: ObjectNo, kind: u8, argument: u32) -> Stepped
+        ensures { λ r. ⌜ told r ≡ callStep base (view self) (slot .0) (number .0) kind argument ⌝ }
+    {
+        let mut words = self.words;
+        let mut bytes = self.bytes;
+        let mut marks = self.marks;
+        let answer = pump::call(&mut words, &mut bytes, &mut marks, slot, number, kind, argument);
+        Stepped {
+            tables: Tables {
+                words,
+                bytes,
+                marks,
+            },
+            answer,
+        }
+    }
+
+    pub fn release(self, slot: SlotNo, number: ObjectNo) -> Stepped
         ensures { λ r. ⌜ told r ≡ releaseStep base (view self) (slot .0) (number .0) ⌝ }
     {
-        let s = (slot.0 % SLOTS) as usize;
-        let o = (number.0 % OBJECTS) as usize;
-        let plan = plans::release(
-            slot,
-            number,
-            self.live[s],
-            self.pairs[s * 24 + o],
-            self.objects[o],
-        );
-        let next = plan.object;
-        let answer = plan.answer;
-        self.objects[o] = next;
+        let mut words = self.words;
+        let mut bytes = self.bytes;
+        let mut marks = self.marks;
+        let answer = pump::release(&mut words, &mut bytes, &mut marks, slot, number);
         Stepped {
-            tables: self,
+            tables: Tables {
+                words,
+                bytes,
+                marks,
+            },
+            answer,
+        }
+    }
+
+    pub fn commit(self, slot: SlotNo, tick: u32, buf: &mut [u8]) -> Stepped
+        ensures { λ r. ⌜ ended r (now (buf .exit)) ≡ endStep base false (view self) (slot .0) tick (now (buf .entry)) ⌝ }
+    {
+        self.end(slot, tick, false, buf)
+    }
+
+    pub fn rollback(self, slot: SlotNo, tick: u32, buf: &mut [u8]) -> Stepped
+        ensures { λ r. ⌜ ended r (now (buf .exit)) ≡ endStep base true (view self) (slot .0) tick (now (buf .entry)) ⌝ }
+    {
+        self.end(slot, tick, true, buf)
+    }
+
+    fn end(self, slot: SlotNo, tick: u32, rollback: bool, buf: &mut [u8]) -> Stepped
+        ensures { λ r. ⌜ ended r (now (buf .exit)) ≡ endStep base rollback (view self) (slot .0) tick (now (buf .entry)) ⌝ }
+    {
+        let mut words = self.words;
+        let mut bytes = self.bytes;
+        let mut marks = self.marks;
+        let answer = pump::end(&mut words, &mut bytes, &mut marks, slot, tick, rollback, buf);
+        Stepped {
+            tables: Tables {
+                words,
+                bytes,
+                marks,
+            },
             answer,
         }
     }

@@ -7,6 +7,7 @@ ghost use Rattle.rules.specs.Steps.{startStep, callStep, releaseStep, endStep};
 ghost use Rattle.pump.specs.Held.{held, left, leftWith};
 
 pub mod events;
+pub mod looks;
 
 use answers::Answer;
 use counters::OBJECTS;
@@ -16,7 +17,7 @@ use counters::Size;
 use counters::SlotNo;
 use counters::Version;
 
-const PUMP: Size = Size {
+pub const PUMP: Size = Size {
     slots: SLOTS,
     objects: OBJECTS,
 };
