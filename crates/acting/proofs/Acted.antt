@@ -73,11 +73,11 @@ module _ (z : Size) (t : State) (slot number s o : ℕ) (right-slot : slot < z .
         (λ i. record { tables = withPair z (withObject t o (is-next i)) s o (is-next-pair i); reply = accepted (act .answer) })
         ∙ (λ i. record { tables = withPair z (withObject t o (calledWith (acts i .word) pair object)) s o (calledPair pair object); reply = accepted (acts i .answer) })
         ∙ (λ i.
-            record {
-              tables =
-                  withPair z (withObject t o (calledWith (acted kind (is-object i .word) argument .word) (is-pair i) (is-object i))) s o
-                  (calledPair (is-pair i) (is-object i));
-              reply = accepted (acted kind (is-object i .word) argument .answer);
-            })
+        record {
+          tables =
+              withPair z (withObject t o (calledWith (acted kind (is-object i .word) argument .word) (is-pair i) (is-object i))) s o
+              (calledPair (is-pair i) (is-object i));
+          reply = accepted (acted kind (is-object i .word) argument .answer);
+        })
         ∙ step-passed z t slot number s o right-slot right-object calling called
         ((λ i. decide (callRules z slot number kind (sym is-live i) (sym dooms i) (sym is-pair i) (sym is-object i)) Refuses Passes) ∙ e)

@@ -68,7 +68,15 @@ fn declare_all(
 {
     let mut next: usize = 0;
     while 1 < list.len() - next {
-        declare(words, bytes, marks, size, s, list[next] as u32, list[next + 1]);
+        declare(
+            words,
+            bytes,
+            marks,
+            size,
+            s,
+            list[next] as u32,
+            list[next + 1],
+        );
         next = next + 2;
     }
 }
@@ -88,7 +96,15 @@ fn declare(
     let given = tables::object_at(words, size, o).give_out();
     let private = given.global;
     tables::store_object(words, size, o, given);
-    tables::store_pair(words, bytes, marks, size, s, o, Pair::declare(supremum, private));
+    tables::store_pair(
+        words,
+        bytes,
+        marks,
+        size,
+        s,
+        o,
+        Pair::declare(supremum, private),
+    );
 }
 
 // Given a word for each object and a first version, all three versions of every object are that version and no slot

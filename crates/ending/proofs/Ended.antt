@@ -92,8 +92,8 @@ module _ (z : Size) (rollback : Bool) (t : State) (slot s tick : ℕ) (buffer : 
   stated =
       ap
       (λ (n : ℕ).
-          decide (endRules z rollback slot (liveAt t slot) (doomed z t slot) (unmet z t slot) (ltb (length buffer) n))
-          (λ refusal. beside buffer (unchanged t refusal)) made)
+      decide (endRules z rollback slot (liveAt t slot) (doomed z t slot) (unmet z t slot) (ltb (length buffer) n))
+      (λ refusal. beside buffer (unchanged t refusal)) made)
       (sym (end-length rollback tick slot (endEntries z slot t)))
 
   pub end-refused : (refusal : Refusal) → decide (endRules z rollback slot live (sight .doomed) (sight .unmet) short) Refuses Passes ≡ Refuses refusal

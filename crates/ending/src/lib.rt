@@ -39,7 +39,18 @@ pub fn end(
     match sights::verdict(size, slot, rollback, live, sight, short) {
         Verdict::Refuses(refusal) => Answer::Refused(refusal),
         Verdict::Passes => {
-            writing::record(words, bytes, marks, size, s, rollback, tick, slot, sight.bytes, buf);
+            writing::record(
+                words,
+                bytes,
+                marks,
+                size,
+                s,
+                rollback,
+                tick,
+                slot,
+                sight.bytes,
+                buf,
+            );
             settle(words, bytes, marks, size, s, rollback);
             tables::store_live(marks, size, s, false);
             Answer::Accepted(10 + sight.bytes as u32)
@@ -96,7 +107,12 @@ fn settle_one(
     ensures { λ _. ⌜ Become size (now (words .entry)) (now (bytes .entry)) (now (marks .entry)) (now (words .exit)) (now (bytes .exit)) (now (marks .exit)) (endCleared size rollback s o) ⌝ }
 {
     let pair = tables::pair_at(words, bytes, marks, size, s, o);
-    let object = ends::object(size.slots, rollback, pair, tables::object_at(words, size, o));
+    let object = ends::object(
+        size.slots,
+        rollback,
+        pair,
+        tables::object_at(words, size, o),
+    );
     tables::store_object(words, size, o, object);
     columns::spoil_callers(marks, size, o, ends::spread(size.slots, rollback, pair));
     tables::store_pair(words, bytes, marks, size, s, o, Pair::none());

@@ -28,17 +28,7 @@ pub fn front(fields: Fields, bytes: u16) -> [u8; 12]
         Fields::Release { slot, object } => heads::two(frame, slot.0, object.0),
         Fields::Commit { slot, tick } => heads::end(frame, slot, tick),
         Fields::Rollback { slot, tick } => heads::end(frame, slot, tick),
-        Fields::Committed { tick, slot } => heads::ended(
-            frame,
-            tick,
-            slot,
-            (bytes / 5) as u8,
-        ),
-        Fields::RolledBack { tick, slot } => heads::ended(
-            frame,
-            tick,
-            slot,
-            (bytes / 5) as u8,
-        ),
+        Fields::Committed { tick, slot } => heads::ended(frame, tick, slot, (bytes / 5) as u8),
+        Fields::RolledBack { tick, slot } => heads::ended(frame, tick, slot, (bytes / 5) as u8),
     }
 }

@@ -23,10 +23,10 @@ view-tells t other right right′ e =
 pub told-tells : (r other : Stepped) → Typed (r .tables) → Typed (other .tables) → told r ≡ told other → r ≡ other
 told-tells r other right right′ e =
     λ i.
-        record {
-          tables = view-tells (r .tables) (other .tables) right right′ (ap (λ (s : Stepping). s .tables) e) i;
-          answer = reply-tells (r .answer) (other .answer) (ap (λ (s : Stepping). s .reply) e) i;
-        }
+    record {
+      tables = view-tells (r .tables) (other .tables) right right′ (ap (λ (s : Stepping). s .tables) e) i;
+      answer = reply-tells (r .answer) (other .answer) (ap (λ (s : Stepping). s .reply) e) i;
+    }
 
 pub ended-tells : (r other : Stepped) (left right : List ℕ) → Typed (r .tables) → Typed (other .tables) → ended r left ≡ ended other right
     → (r ≡ other) × (left ≡ right)

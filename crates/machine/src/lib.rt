@@ -45,7 +45,15 @@ impl Tables {
         let mut words = self.words;
         let mut bytes = self.bytes;
         let mut marks = self.marks;
-        let answer = pump::call(&mut words, &mut bytes, &mut marks, slot, number, kind, argument);
+        let answer = pump::call(
+            &mut words,
+            &mut bytes,
+            &mut marks,
+            slot,
+            number,
+            kind,
+            argument,
+        );
         Stepped {
             tables: Tables {
                 words,
@@ -91,7 +99,15 @@ impl Tables {
         let mut words = self.words;
         let mut bytes = self.bytes;
         let mut marks = self.marks;
-        let answer = pump::end(&mut words, &mut bytes, &mut marks, slot, tick, rollback, buf);
+        let answer = pump::end(
+            &mut words,
+            &mut bytes,
+            &mut marks,
+            slot,
+            tick,
+            rollback,
+            buf,
+        );
         Stepped {
             tables: Tables {
                 words,

@@ -1,21 +1,22 @@
 // What an event changes: how many objects, live marks and pairs are not what they were.
+use crate::looks::pair_in;
+use counters::OBJECTS;
+use counters::ObjectNo;
+use counters::SLOTS;
+use counters::SlotNo;
 use machine::Tables;
 use objects::Object;
 use objects::Pair;
+use pump::looks;
 use text::show::sentence;
 
 // Nothing is said where nothing is new.
 pub fn changes(before: Tables, after: Tables) {
-    let old = before.objects;
-    let new = after.objects;
-    let objects = objects(old, new);
-    let old = before.live;
-    let new = after.live;
-    let slots = slots(old, new);
-    let old = before.pairs;
-    let new = after.pairs;
-    let pairs = pairs(old, new);
-    told(objects, slots, pairs);
+    told(
+        objects(before, after),
+        slots(before, after),
+        pairs(before, after),
+    );
 }
 
 fn told(objects: u32, slots: u32, pairs: u32) {
@@ -28,31 +29,45 @@ fn told(objects: u32, slots: u32, pairs: u32) {
     );
 }
 
-fn objects(before: [Object; 24], after: [Object; 24]) -> u32 {
+fn objects(before: Tables, after: Tables) -> u32 {
+    let old = before.words;
+    let new = after.words;
     let mut changed: u32 = 0;
-    let mut at: usize = 0;
-    while at < 24 {
-        changed = counted(changed, object(before[at], after[at]));
+    let mut at: u8 = 0;
+    while at < OBJECTS {
+        let number = ObjectNo(at);
+        changed = counted(
+            changed,
+            object(looks::object(&old, number), looks::object(&new, number)),
+        );
         at = at + 1;
     }
     changed
 }
 
-fn slots(before: [bool; 16], after: [bool; 16]) -> u32 {
+fn slots(before: Tables, after: Tables) -> u32 {
+    let old = before.marks;
+    let new = after.marks;
     let mut changed: u32 = 0;
-    let mut at: usize = 0;
-    while at < 16 {
-        changed = counted(changed, before[at] != after[at]);
+    let mut at: u8 = 0;
+    while at < SLOTS {
+        let slot = SlotNo(at);
+        changed = counted(changed, looks::live(&old, slot) != looks::live(&new, slot));
         at = at + 1;
     }
     changed
 }
 
-fn pairs(before: [Pair; 384], after: [Pair; 384]) -> u32 {
+fn pairs(before: Tables, after: Tables) -> u32 {
     let mut changed: u32 = 0;
-    let mut at: usize = 0;
+    let mut at: u32 = 0;
     while at < 384 {
-        changed = counted(changed, pair(before[at], after[at]));
+        let slot = SlotNo((at / 24 % 256) as u8);
+        let number = ObjectNo((at % 24) as u8);
+        changed = counted(
+            changed,
+            pair(pair_in(before, slot, number), pair_in(after, slot, number)),
+        );
         at = at + 1;
     }
     changed

@@ -2,10 +2,13 @@
 // and that of an object modulo 24.
 ghost use Prim.Native.Nat.{_<_};
 use counters::CallCount;
+use counters::ObjectNo;
+use counters::SlotNo;
 use counters::Version;
 use machine::Tables;
 use objects::Object;
 use objects::Pair;
+use pump::PUMP;
 use text::scan::byte_at;
 use text::scan::number_at;
 use text::scan::numbers_of;
@@ -52,15 +55,23 @@ pub fn fresh(line: &[u8]) -> Tables {
 
 // `set live 2`
 pub fn live(line: &[u8], given: Tables) -> Tables {
-    let mut tables = given;
-    let slot = (number_at(line, 0) % 16) as usize;
-    tables.live[slot] = true;
-    tables
+    let words = given.words;
+    let bytes = given.bytes;
+    let mut marks = given.marks;
+    let slot = slot_at(line);
+    tables::store_live(&mut marks, PUMP, slot.0 as u32, true);
+    Tables {
+        words,
+        bytes,
+        marks,
+    }
 }
 
 // `set object 3: word 103, global 0, local 0, terminal 0`
 pub fn object(line: &[u8], given: Tables) -> Tables {
-    let mut tables = given;
+    let mut words = given.words;
+    let bytes = given.bytes;
+    let marks = given.marks;
     let number = object_at(line);
     let object = Object {
         word: number_at(line, 1),
@@ -68,14 +79,16 @@ pub fn object(line: &[u8], given: Tables) -> Tables {
         local: Version(number_at(line, 3)),
         terminal: Version(number_at(line, 4)),
     };
-    tables.objects[number] = object;
-    tables
+    tables::store_object(&mut words, PUMP, number.0 as u32, object);
+    Tables {
+        words,
+        bytes,
+        marks,
+    }
 }
 
 // `set pair 0 3: supremum 2, private 0, count 1, saved 103, declared 1, called 1, spoiled 0`
 pub fn pair(line: &[u8], given: Tables) -> Tables {
-    let mut tables = given;
-    let place = pair_at(line);
     let pair = Pair {
         supremum: byte_at(line, 2),
         private: Version(number_at(line, 3)),
@@ -85,19 +98,40 @@ pub fn pair(line: &[u8], given: Tables) -> Tables {
         called: byte_at(line, 7) != 0,
         spoiled: byte_at(line, 8) != 0,
     };
-    tables.pairs[place] = pair;
-    tables
+    with_pair(given, slot_at(line), object_behind(line), pair)
 }
 
-// The object that a line names, or the slot and the object, as a place of the tables.
-pub fn object_at(line: &[u8]) -> usize
-    ensures { λ r. ⌜ r < 24 ⌝ }
+fn with_pair(given: Tables, slot: SlotNo, number: ObjectNo, pair: Pair) -> Tables
+    requires { ⌜ (slot .0 < 16) × (number .0 < 24) ⌝ }
 {
-    (number_at(line, 0) % 24) as usize
+    let mut words = given.words;
+    let mut bytes = given.bytes;
+    let mut marks = given.marks;
+    let s = slot.0 as u32;
+    let o = number.0 as u32;
+    tables::store_pair(&mut words, &mut bytes, &mut marks, PUMP, s, o, pair);
+    Tables {
+        words,
+        bytes,
+        marks,
+    }
 }
 
-pub fn pair_at(line: &[u8]) -> usize
-    ensures { λ r. ⌜ r < 384 ⌝ }
+// The slot that a line names first, an object that it names first, and an object behind a slot.
+pub fn slot_at(line: &[u8]) -> SlotNo
+    ensures { λ r. ⌜ r .0 < 16 ⌝ }
 {
-    (number_at(line, 0) % 16 * 24 + number_at(line, 1) % 24) as usize
+    SlotNo((number_at(line, 0) % 16) as u8)
+}
+
+pub fn object_at(line: &[u8]) -> ObjectNo
+    ensures { λ r. ⌜ r .0 < 24 ⌝ }
+{
+    ObjectNo((number_at(line, 0) % 24) as u8)
+}
+
+pub fn object_behind(line: &[u8]) -> ObjectNo
+    ensures { λ r. ⌜ r .0 < 24 ⌝ }
+{
+    ObjectNo((number_at(line, 1) % 24) as u8)
 }

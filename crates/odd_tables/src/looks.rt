@@ -1,14 +1,19 @@
 // What stands in the tables: an object, or a pair.
 use crate::given::object_at;
-use crate::given::pair_at;
+use crate::given::object_behind;
+use crate::given::slot_at;
+use counters::ObjectNo;
+use counters::SlotNo;
 use machine::Tables;
 use objects::Object;
 use objects::Pair;
+use pump::looks;
 use text::show::sentence;
 
 // `show object 3`
 pub fn object(line: &[u8], tables: Tables) -> Tables {
-    told_object(tables.objects[object_at(line)]);
+    let words = tables.words;
+    told_object(looks::object(&words, object_at(line)));
     tables
 }
 
@@ -26,7 +31,7 @@ fn told_object(object: Object) {
 
 // `show pair 0 3`
 pub fn pair(line: &[u8], tables: Tables) -> Tables {
-    told_pair(tables.pairs[pair_at(line)]);
+    told_pair(pair_in(tables, slot_at(line), object_behind(line)));
     tables
 }
 
@@ -43,4 +48,12 @@ fn told_pair(pair: Pair) {
             pair.spoiled as u32,
         ],
     );
+}
+
+// The pair of tables by value.
+pub fn pair_in(tables: Tables, slot: SlotNo, number: ObjectNo) -> Pair {
+    let words = tables.words;
+    let bytes = tables.bytes;
+    let marks = tables.marks;
+    looks::pair(&words, &bytes, &marks, slot, number)
 }

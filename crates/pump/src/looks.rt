@@ -39,7 +39,13 @@ pub fn live(marks: &[bool; 1168], slot: SlotNo) -> bool
     tables::live_at(marks, PUMP, slot.0 as u32)
 }
 
-pub fn pair(words: &[u32; 864], bytes: &[u8; 768], marks: &[bool; 1168], slot: SlotNo, number: ObjectNo) -> Pair
+pub fn pair(
+    words: &[u32; 864],
+    bytes: &[u8; 768],
+    marks: &[bool; 1168],
+    slot: SlotNo,
+    number: ObjectNo,
+) -> Pair
     ensures { λ r. ⌜ r ≡ pairSeen (now (words .entry)) (now (bytes .entry)) (now (marks .entry)) (slot .0) (number .0) ⌝ }
 {
     if SLOTS <= slot.0 {

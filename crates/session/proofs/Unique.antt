@@ -8,10 +8,10 @@ use Rattle.session.specs.declared.Answered.{Answered}
 pub answered-tells : (r other : Answered) → Typed (r .tables) → Typed (other .tables) → answered r ≡ answered other → r ≡ other
 answered-tells r other right right′ e =
     λ i.
-        record {
-          tables = view-tells (r .tables) (other .tables) right right′ (ap (λ (a : Answering). a .tables) e) i;
-          answer = reply-tells (r .answer) (other .answer) (ap (λ (a : Answering). a .reply) e) i;
-          prints = e i .prints;
-          stops = e i .stops;
-          taken = e i .taken;
-        }
+    record {
+      tables = view-tells (r .tables) (other .tables) right right′ (ap (λ (a : Answering). a .tables) e) i;
+      answer = reply-tells (r .answer) (other .answer) (ap (λ (a : Answering). a .reply) e) i;
+      prints = e i .prints;
+      stops = e i .stops;
+      taken = e i .taken;
+    }

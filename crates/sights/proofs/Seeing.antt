@@ -31,12 +31,12 @@ pub record Seeing (z : Size) (t : State) (s n : ℕ) (sight : Sight) : Type 0 wh
   pub reached : n ≤ z .objects
   pub few : sight .bytes ≤ 5 * n
   pub shows :
-    sight
-    ≡ record {
-      doomed = anyBelow n (λ o. pairAt z t s o .spoiled);
-      unmet = anyBelow n (λ o. misses (pairAt z t s o) (objectAt t o));
-      bytes = length (entriesTo z t s n);
-    }
+      sight
+      ≡ record {
+        doomed = anyBelow n (λ o. pairAt z t s o .spoiled);
+        unmet = anyBelow n (λ o. misses (pairAt z t s o) (objectAt t o));
+        bytes = length (entriesTo z t s n);
+      }
 
 pub sees-first : (z : Size) (t : State) (s : ℕ) (sight : Sight) → sight ≡ noSight → Seeing z t s 0 sight
 sees-first z t s sight e =
@@ -47,11 +47,11 @@ sees-first z t s sight e =
           e
           ∙ sym
           (λ i.
-              record {
-                doomed = any-zero (λ o. pairAt z t s o .spoiled) i;
-                unmet = any-zero (λ o. misses (pairAt z t s o) (objectAt t o)) i;
-                bytes = length (join-zero (λ o. entryOf o (pairAt z t s o)) i);
-              });
+          record {
+            doomed = any-zero (λ o. pairAt z t s o .spoiled) i;
+            unmet = any-zero (λ o. misses (pairAt z t s o) (objectAt t o)) i;
+            bytes = length (join-zero (λ o. entryOf o (pairAt z t s o)) i);
+          });
     }
 
 -- one object more
@@ -78,7 +78,7 @@ pub sees-all : (z : Size) (t : State) (s n : ℕ) (sight : Sight) → z .objects
 sees-all z t s n sight all seeing =
     let every : n ≡ z .objects = omega (arith, seeing .reached) in (
       seeing .shows
-      ∙ (λ i.
+          ∙ (λ i.
           record {
             doomed = anyBelow (every i) (λ o. pairAt z t s o .spoiled);
             unmet = anyBelow (every i) (λ o. misses (pairAt z t s o) (objectAt t o));

@@ -42,14 +42,13 @@ returns c =
     let call = told .before .before in
     let a = begin call .args in
     let t = view (a .size) (a .words .now) (a .bytes .now) (a .marks .now) in
-    let seat = seats call .before in
-    (
+    let seat = seats call .before in (
       begin call .pre .0,
       call-refused (a .size) t (a .slot .0) (a .number .0) (seat .seat .result) (seats call .seat2 .result) (seat .seat .ensures .1) (seats call .seat2 .ensures .1)
-      (doomed call .before .before .live-at .result) (paired call .pair-at .result) (call .before .object-at .result)
-      (doomed call .before .before .live-at .ensures) (paired call .pair-at .ensures) (call .before .object-at .ensures)
-      (a .kind) (a .argument) (doomed call .doomed .result) (doomed call .doomed .ensures (a .words .now) (a .bytes .now))
-      (told .refusal .given .0 .0) (sym (call .call .ensures) ∙ told .refusal .given .1),
+          (doomed call .before .before .live-at .result) (paired call .pair-at .result) (call .before .object-at .result)
+          (doomed call .before .before .live-at .ensures) (paired call .pair-at .ensures) (call .before .object-at .ensures)
+          (a .kind) (a .argument) (doomed call .doomed .result) (doomed call .doomed .ensures (a .words .now) (a .bytes .now))
+          (told .refusal .given .0 .0) (sym (call .call .ensures) ∙ told .refusal .given .1),
     )
 
 returns-2 : tie.Need-returns-2
@@ -63,18 +62,17 @@ returns-2 c =
     let call = told .before .before in
     let a = begin call .args in
     let t = view (a .size) (a .words .now) (a .bytes .now) (a .marks .now) in
-    let seat = seats call .before in
-    (
+    let seat = seats call .before in (
       paired-store .store-pair .ensures .0,
       (λ i. record { tables = paired-store .store-pair .ensures .1 i; reply = accepted (act .act .result .answer) })
-      ∙ ap (λ (u : State). record { tables = withPair (a .size) u (seat .seat .result) (seats call .seat2 .result) (next-pair .pair .result); reply = accepted (act .act .result .answer) })
-      (stored .store-object .ensures .1 (a .bytes .now) (a .marks .now))
-      ∙ call-passed (a .size) t (a .slot .0) (a .number .0) (seat .seat .result) (seats call .seat2 .result) (seat .seat .ensures .1) (seats call .seat2 .ensures .1)
-      (doomed call .before .before .live-at .result) (paired call .pair-at .result) (call .before .object-at .result)
-      (doomed call .before .before .live-at .ensures) (paired call .pair-at .ensures) (call .before .object-at .ensures)
-      (a .kind) (a .argument) (doomed call .doomed .result) (doomed call .doomed .ensures (a .words .now) (a .bytes .now))
-      (sym (call .call .ensures) ∙ told .enum-told .given .1)
-      (act .act .result) (next .object .result) (next-pair .pair .result) (act .act .ensures) (next .object .ensures) (next-pair .pair .ensures),
+          ∙ ap (λ (u : State). record { tables = withPair (a .size) u (seat .seat .result) (seats call .seat2 .result) (next-pair .pair .result); reply = accepted (act .act .result .answer) })
+          (stored .store-object .ensures .1 (a .bytes .now) (a .marks .now))
+          ∙ call-passed (a .size) t (a .slot .0) (a .number .0) (seat .seat .result) (seats call .seat2 .result) (seat .seat .ensures .1) (seats call .seat2 .ensures .1)
+          (doomed call .before .before .live-at .result) (paired call .pair-at .result) (call .before .object-at .result)
+          (doomed call .before .before .live-at .ensures) (paired call .pair-at .ensures) (call .before .object-at .ensures)
+          (a .kind) (a .argument) (doomed call .doomed .result) (doomed call .doomed .ensures (a .words .now) (a .bytes .now))
+          (sym (call .call .ensures) ∙ told .enum-told .given .1)
+          (act .act .result) (next .object .result) (next-pair .pair .result) (act .act .ensures) (next .object .ensures) (next-pair .pair .ensures),
     )
 
 pub call-spec : {M : Type 1} → statement M

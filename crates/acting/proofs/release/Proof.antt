@@ -29,13 +29,12 @@ returns c =
     let release = told .before .before in
     let a = begin release .args in
     let t = view (a .size) (a .words .now) (a .bytes .now) (a .marks .now) in
-    let seat = seats release .before in
-    (
+    let seat = seats release .before in (
       begin release .pre .0,
       release-refused (a .size) t (a .slot .0) (a .number .0) (seat .seat .result) (seats release .seat2 .result) (seat .seat .ensures .1) (seats release .seat2 .ensures .1)
-      (paired release .before .before .live-at .result) (paired release .pair-at .result) (release .before .object-at .result)
-      (paired release .before .before .live-at .ensures) (paired release .pair-at .ensures) (release .before .object-at .ensures)
-      (told .refusal .given .0 .0) (sym (release .release .ensures) ∙ told .refusal .given .1),
+          (paired release .before .before .live-at .result) (paired release .pair-at .result) (release .before .object-at .result)
+          (paired release .before .before .live-at .ensures) (paired release .pair-at .ensures) (release .before .object-at .ensures)
+          (told .refusal .given .0 .0) (sym (release .release .ensures) ∙ told .refusal .given .1),
     )
 
 returns-2 : tie.Need-returns-2
@@ -46,15 +45,14 @@ returns-2 c =
     let release = told .before .before in
     let a = begin release .args in
     let t = view (a .size) (a .words .now) (a .bytes .now) (a .marks .now) in
-    let seat = seats release .before in
-    (
+    let seat = seats release .before in (
       (stored .store-object .ensures .0, begin release .pre .0 .1, begin release .pre .0 .2),
       (λ i. record { tables = stored .store-object .ensures .1 (a .bytes .now) (a .marks .now) i; reply = accepted 0 })
-      ∙ ap (λ (x : Object). record { tables = withObject t (seats release .seat2 .result) x; reply = accepted 0 }) (next .let-go .ensures)
-      ∙ release-passed (a .size) t (a .slot .0) (a .number .0) (seat .seat .result) (seats release .seat2 .result) (seat .seat .ensures .1) (seats release .seat2 .ensures .1)
-      (paired release .before .before .live-at .result) (paired release .pair-at .result) (release .before .object-at .result)
-      (paired release .before .before .live-at .ensures) (paired release .pair-at .ensures) (release .before .object-at .ensures)
-      (sym (release .release .ensures) ∙ told .enum-told .given .1),
+          ∙ ap (λ (x : Object). record { tables = withObject t (seats release .seat2 .result) x; reply = accepted 0 }) (next .let-go .ensures)
+          ∙ release-passed (a .size) t (a .slot .0) (a .number .0) (seat .seat .result) (seats release .seat2 .result) (seat .seat .ensures .1) (seats release .seat2 .ensures .1)
+          (paired release .before .before .live-at .result) (paired release .pair-at .result) (release .before .object-at .result)
+          (paired release .before .before .live-at .ensures) (paired release .pair-at .ensures) (release .before .object-at .ensures)
+          (sym (release .release .ensures) ∙ told .enum-told .given .1),
     )
 
 pub release-spec : {M : Type 1} → statement M

@@ -32,8 +32,7 @@ loop-again c =
     let top = turn .before .before in
     let met = top .loop in
     let a = begin top .args in
-    let one = beginObject (a .first .0) (a .given .now) in
-    (
+    let one = beginObject (a .first .0) (a .given .now) in (
       omega (arith, turn .if1 .taken),
       (
         stored .store-object .ensures .0,
@@ -49,8 +48,7 @@ returns c =
     let top = c .before .before in
     let met = top .loop in
     let a = begin top .args in
-    let all : met .o ≡ a .size .objects = omega (arith, met .inv .0, c .if1 .left) in
-    (
+    let all : met .o ≡ a .size .objects = omega (arith, met .inv .0, c .if1 .left) in (
       met .inv .1 .0,
       λ b k. met .inv .1 .1 b k ∙ ap (λ (n : ℕ). eachBelow n (beginObject (a .first .0) (a .given .now)) (view (a .size) (a .words .now) b k)) all,
     )

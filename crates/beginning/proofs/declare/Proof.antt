@@ -35,8 +35,7 @@ returns c =
     let object = given .before in
     let a = begin stored .args in
     let b = a .bytes .now in
-    let k = a .marks .now in
-    (
+    let k = a .marks .now in (
       last .store-pair .ensures .0,
       one-declared (a .size) (a .s) (a .o) (a .supremum) (object .object-at .result) (given .give-out .result) (pair .declare .result)
           (view (a .size) (a .words .now) b k) (view (a .size) (stored .store-object .last .0) b k)

@@ -13,8 +13,7 @@ returns c =
     let start = objects .before .before .before .before .before .before in
     let a = start .args in
     let b = a .bytes .now in
-    let k = a .marks .now in
-    (
+    let k = a .marks .now in (
       slots .begin-slots .ensures .0,
       begun (a .size) (a .first .0) (a .given .now) (view (a .size) (a .words .now) b k) (view (a .size) (objects .begin-objects .last .0) b k)
           (view (a .size) (slots .begin-slots .last .0) (slots .begin-slots .last .1 .0) (slots .begin-slots .last .1 .1 .0))

@@ -39,8 +39,7 @@ returns-2 c =
     let size = begin verdict .args .size in
     let fits = declared .declare-all .ensures .0 in
     let w = declared .declare-all .last .0 in
-    let b = declared .declare-all .last .1 .0 in
-    (
+    let b = declared .declare-all .last .1 .0 in (
       (fits .0, fits .1, stored .store-live .ensures .0),
       start-passed (judged verdict) (passes .enum-told .given .1) (view size (cleared .clear .last .0) (cleared .clear .last .1 .0) (cleared .clear .last .1 .1 .0))
           (view size w b (declared .declare-all .last .1 .1 .0)) (view size w b (stored .store-live .last .0))

@@ -42,15 +42,14 @@ record-requires c κs =
     let start = begin verdict in
     let a = start .args in
     let sight = looked verdict .look .result in
-    let t = view (a .size) (a .words .now) (a .bytes .now) (a .marks .now) in
-    (
+    let t = view (a .size) (a .words .now) (a .bytes .now) (a .marks .now) in (
       (start .pre .0, seated verdict .seat .ensures .0),
       (
         ap (λ (x : Sight). x .bytes) (looked verdict .look .ensures .0),
         omega (arith, few verdict, start .pre .2),
         has-room (a .size) (a .rollback) t (a .slot .0) (seated verdict .seat .result) (a .tick) (a .buf .now) (seated verdict .seat .ensures .1)
-        (lived verdict .live-at .result) sight _ (lived verdict .live-at .ensures) (looked verdict .look .ensures .0) refl
-        (sym (verdict .verdict .ensures) ∙ passed .enum-told .given .1),
+            (lived verdict .live-at .result) sight _ (lived verdict .live-at .ensures) (looked verdict .look .ensures .0) refl
+            (sym (verdict .verdict .ensures) ∙ passed .enum-told .given .1),
       ),
     )
 
@@ -72,12 +71,11 @@ returns c =
     let refused = c .before in
     let verdict = refused .before .before in
     let a = begin verdict .args in
-    let t = view (a .size) (a .words .now) (a .bytes .now) (a .marks .now) in
-    (
+    let t = view (a .size) (a .words .now) (a .bytes .now) (a .marks .now) in (
       begin verdict .pre .0,
       end-refused (a .size) (a .rollback) t (a .slot .0) (seated verdict .seat .result) (a .tick) (a .buf .now) (seated verdict .seat .ensures .1)
-      (lived verdict .live-at .result) (looked verdict .look .result) _ (lived verdict .live-at .ensures) (looked verdict .look .ensures .0) refl
-      (refused .refusal .given .0 .0) (sym (verdict .verdict .ensures) ∙ refused .refusal .given .1),
+          (lived verdict .live-at .result) (looked verdict .look .result) _ (lived verdict .live-at .ensures) (looked verdict .look .ensures .0) refl
+          (refused .refusal .given .0 .0) (sym (verdict .verdict .ensures) ∙ refused .refusal .given .1),
     )
 
 returns-2 : tie.Need-returns-2
@@ -91,13 +89,12 @@ returns-2 c =
     let t = view (a .size) (a .words .now) (a .bytes .now) (a .marks .now) in
     let fits = settle .settle .ensures .0 in
     let s = seated verdict .seat .result in
-    let bytes = looked verdict .look .result .bytes in
-    (
+    let bytes = looked verdict .look .result .bytes in (
       (fits .0, fits .1, stored .store-live .ensures .0),
       (λ i. record { tables = stored .store-live .ensures .1 (settle .settle .last .0) (settle .settle .last .1 .0) i; reply = accepted (10 + bytes); buffer = record-at .record .last .1 .1 .1 .1 .1 .1 .1 .1 .1 .0 })
-      ∙ end-passed (a .size) (a .rollback) t (a .slot .0) s (a .tick) (a .buf .now) (seated verdict .seat .ensures .1)
-      (lived verdict .live-at .result) (looked verdict .look .result) _ (lived verdict .live-at .ensures) (looked verdict .look .ensures .0) refl
-      (sym (verdict .verdict .ensures) ∙ passed .enum-told .given .1) _ _ (settle .settle .ensures .1) (record-at .record .ensures),
+          ∙ end-passed (a .size) (a .rollback) t (a .slot .0) s (a .tick) (a .buf .now) (seated verdict .seat .ensures .1)
+          (lived verdict .live-at .result) (looked verdict .look .result) _ (lived verdict .live-at .ensures) (looked verdict .look .ensures .0) refl
+          (sym (verdict .verdict .ensures) ∙ passed .enum-told .given .1) _ _ (settle .settle .ensures .1) (record-at .record .ensures),
     )
 
 pub end-spec : {M : Type 1} → statement M

@@ -38,14 +38,13 @@ loop-again c =
     let one = c .before .before .before .before .before .before in
     let turn = one .before .before .before .before in
     let top = turn .before .before in
-    let a = begin top .args in
-    (
+    let a = begin top .args in (
       omega (arith, turn .if1 .taken),
       (
         one .settle-one .ensures .0,
         one .settle-one .ensures .1
-        ∙ ap (endCleared (a .size) (a .rollback) (a .s) (top .loop .o)) (top .loop .inv .1 .1)
-        ∙ sym (each-next (λ q t. endCleared (a .size) (a .rollback) (a .s) q t) (view (a .size) (a .words .now) (a .bytes .now) (a .marks .now)) (top .loop .o)),
+            ∙ ap (endCleared (a .size) (a .rollback) (a .s) (top .loop .o)) (top .loop .inv .1 .1)
+            ∙ sym (each-next (λ q t. endCleared (a .size) (a .rollback) (a .s) q t) (view (a .size) (a .words .now) (a .bytes .now) (a .marks .now)) (top .loop .o)),
       ),
     )
 
@@ -68,8 +67,7 @@ returns : tie.Need-returns Inv-loop μ-loop
 returns c =
     let top = c .before .before in
     let a = begin top .args in
-    let all : top .loop .o ≡ a .size .objects = omega (arith, top .loop .inv .0, c .if1 .left) in
-    (
+    let all : top .loop .o ≡ a .size .objects = omega (arith, top .loop .inv .0, c .if1 .left) in (
       top .loop .inv .1 .0,
       top .loop .inv .1 .1 ∙ ap (λ n. eachBelow n (λ q t. endCleared (a .size) (a .rollback) (a .s) q t) (view (a .size) (a .words .now) (a .bytes .now) (a .marks .now))) all,
     )

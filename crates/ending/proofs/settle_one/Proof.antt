@@ -28,8 +28,7 @@ spoil-callers-requires : tie.Need-spoil-callers-requires
 spoil-callers-requires c κs =
     let object = stored c .before .before in
     let start = begin object in
-    let pair = object .before .before .before in
-    (
+    let pair = object .before .before .before in (
       start .pre .0 .2,
       start .pre .2,
       omega (arith, c .spread .ensures, spread-inside (start .args .size .slots) (start .args .rollback) (pair .pair-at .result)),
@@ -53,16 +52,15 @@ returns c =
     let pair = object .before .before .before in
     let start = begin object in
     let a = start .args in
-    let t = view (a .size) (a .words .now) (a .bytes .now) (a .marks .now) in
-    (
+    let t = view (a .size) (a .words .now) (a .bytes .now) (a .marks .now) in (
       last .store-pair .ensures .0,
       last .store-pair .ensures .1
-      ∙ ap (λ (u : State). withPair (a .size) u (a .s) (a .o) (none .none .result)) (spoiled .spoil-callers .ensures .1 (word .store-object .last .0) (a .bytes .now))
-      ∙ ap (λ (u : State). withPair (a .size) (eachBelow (asked .spread .result) (λ r w. spoilCaller (a .size) (a .o) r w) u) (a .s) (a .o) (none .none .result))
-      (word .store-object .ensures .1 (a .bytes .now) (a .marks .now))
-      ∙ turned (a .size) (a .s) (a .o) (start .pre .2) (a .rollback) t (sized (a .size) (a .words .now) (a .bytes .now) (a .marks .now))
-      (pair .pair-at .result) (none .none .result) (object .before .object-at .result) (object .object .result) (asked .spread .result)
-      (pair .pair-at .ensures) (object .before .object-at .ensures) (object .object .ensures) (asked .spread .ensures) (none .none .ensures),
+          ∙ ap (λ (u : State). withPair (a .size) u (a .s) (a .o) (none .none .result)) (spoiled .spoil-callers .ensures .1 (word .store-object .last .0) (a .bytes .now))
+          ∙ ap (λ (u : State). withPair (a .size) (eachBelow (asked .spread .result) (λ r w. spoilCaller (a .size) (a .o) r w) u) (a .s) (a .o) (none .none .result))
+          (word .store-object .ensures .1 (a .bytes .now) (a .marks .now))
+          ∙ turned (a .size) (a .s) (a .o) (start .pre .2) (a .rollback) t (sized (a .size) (a .words .now) (a .bytes .now) (a .marks .now))
+          (pair .pair-at .result) (none .none .result) (object .before .object-at .result) (object .object .result) (asked .spread .result)
+          (pair .pair-at .ensures) (object .before .object-at .ensures) (object .object .ensures) (asked .spread .ensures) (none .none .ensures),
     )
 
 pub settle-one-spec : {M : Type 1} → statement M

@@ -34,12 +34,11 @@ entry-requires c κs =
     let pair = c .before in
     let turn = pair .before in
     let top = turn .before .before in
-    let a = begin top .args in
-    (
+    let a = begin top .args in (
       omega (arith, turn .if1 .taken),
       omega (arith, top .loop .inv .few, top .loop .inv .reached),
       next-inside (a .size) (view (a .size) (a .words .now) (a .bytes .now) (a .marks .now)) (a .s) (top .loop .o) (top .loop .at) (a .buf .now) (top .loop .buf)
-      (turn .if1 .taken) (top .loop .inv) (pair .pair-at .result) (pair .pair-at .ensures),
+          (turn .if1 .taken) (top .loop .inv) (pair .pair-at .result) (pair .pair-at .ensures),
     )
 
 loop-again : tie.Need-loop-again Inv-loop μ-loop

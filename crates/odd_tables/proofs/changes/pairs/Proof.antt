@@ -1,6 +1,6 @@
--- The same walk over the pairs.
-use borrow.Author.Needs.{needs}
+-- `odd_tables::changes::pairs` meets its promise.
 use Prim.Native.Nat.{_≤_, _-_}
+use borrow.Author.Needs.{needs}
 use Rattle.odd_tables.proofs.changes.pairs.Statement.{statement}
 use Rattle.odd_tables.proofs.changes.pairs.Tie as tie
 
@@ -19,8 +19,8 @@ pairs-spec =
     (λ c. search needs)
     (λ c. search needs)
     (λ c. search needs)
-    (λ c. search needs)
-    (λ c. search needs)
+    (λ c κs. search needs)
+    (λ c κs. search needs)
     (λ c κs. search needs)
     (λ c κs. search needs)
     (λ c. search needs)

@@ -14,11 +14,11 @@ returns c =
     let doomed = missed .before in
     let a = doomed .before .args in
     λ o i.
-        record {
-          doomed = doomed .either .ensures i;
-          unmet = (unmet .either2 .ensures ∙ ap (λ (m : Bool). a .self .unmet || m) (missed .misses .ensures)) i;
-          bytes = ap (λ (n : ℕ). a .self .bytes + n) (counted .entry-bytes .ensures .0 o) i;
-        }
+    record {
+      doomed = doomed .either .ensures i;
+      unmet = (unmet .either2 .ensures ∙ ap (λ (m : Bool). a .self .unmet || m) (missed .misses .ensures)) i;
+      bytes = ap (λ (n : ℕ). a .self .bytes + n) (counted .entry-bytes .ensures .0 o) i;
+    }
 
 pub look-spec : {M : Type 1} → statement M
 look-spec =

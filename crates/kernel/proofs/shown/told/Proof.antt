@@ -1,0 +1,31 @@
+-- `kernel::shown::told` meets its promise.
+use mathlib.Core.Path.{sym, ap, _∙_}
+use Prim.Native.Nat.{ℕ}
+use Rattle.answers.specs.Numbers.{accepted}
+use Rattle.kernel.specs.Shown.{orderOf}
+use borrow.Author.Needs.{needs}
+use Rattle.kernel.proofs.shown.told.Statement.{statement}
+use Rattle.kernel.proofs.shown.told.Tie as tie
+
+returns : tie.Need-returns
+returns c =
+    let found = c .before .before in
+    ap accepted (c .code .ensures) ∙ ap orderOf (sym (found .found .given .1))
+
+returns-2 : tie.Need-returns-2
+returns-2 c = ap orderOf (sym (c .enum-told .given .1))
+
+returns-3 : tie.Need-returns-3
+returns-3 c = ap orderOf (sym (c .before .found2 .given .1))
+
+pub told-spec : {M : Type 1} → statement M
+told-spec =
+    tie.close
+    (tie.spec
+    (λ c. search needs)
+    (λ c κs. search needs)
+    (λ c. search needs)
+    (λ c. search needs)
+    returns
+    returns-2
+    returns-3)
