@@ -1,7 +1,7 @@
 // One object and one pair, and what each event but a call does to one place: the leaves that every step is made of.
 
 ghost use mathlib.Core.Path.{_≡_};
-ghost use Rattle.objects.specs.Places.{turnOf, givenOut, letGo, ended, restored, restores, declaredWith, spoiledPair, noPair};
+ghost use Rattle.objects.specs.Places.{turnOf, givenOut, letGo, ended, restored, restores, declaredWith, noPair};
 use counters::CallCount;
 use counters::Turn;
 use counters::Version;
@@ -148,21 +148,5 @@ impl Pair {
             }
         }
         false
-    }
-
-    pub fn spoil(self) -> Pair
-        ensures { λ r. ⌜ r ≡ spoiledPair self ⌝ }
-    {
-        let private = self.private;
-        let count = self.count;
-        Pair {
-            declared: self.declared,
-            supremum: self.supremum,
-            private,
-            count,
-            called: self.called,
-            spoiled: true,
-            saved: self.saved,
-        }
     }
 }

@@ -24,7 +24,7 @@ pub fn write(fields: Fields, list: &[u8], buf: &mut [u8]) -> Answer
 }
 
 // The record that fields and list make, readable or not: an end that lists no object is written too.
-pub fn place(fields: Fields, list: &[u8], buf: &mut [u8]) -> Answer
+fn place(fields: Fields, list: &[u8], buf: &mut [u8]) -> Answer
     ensures { λ r. ⌜ written r (now (buf .exit)) ≡ placing base fields (now (list .entry)) (now (buf .entry)) ⌝ }
 {
     let body = shape_of(fields).head as usize + list.len();
