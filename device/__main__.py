@@ -7,7 +7,7 @@ from typing import List
 from device import qemu
 from device.building import SMALL, TARGETS, Player
 from device.kit import CRATE, ROOT, NotBuilt, module_of
-from device.playing import Played, most_by_kind, play
+from device.playing import Played, Session, at_random, by_hand, most_by_kind, play
 
 SESSIONS = ROOT / "sessions"
 
@@ -15,6 +15,7 @@ SESSIONS = ROOT / "sessions"
 def arguments(words: List[str]) -> argparse.Namespace:
     parser = argparse.ArgumentParser(prog="python3 -B -m device", description=__doc__)
     parser.add_argument("sessions", nargs="*", type=Path, metavar="SESSION", help="a file beside one with the ending .lines")
+    parser.add_argument("--random", type=int, default=0, metavar="N", help="play as many random sessions too, beside the reference's lines")
     parser.add_argument("--module", type=Path, help=f"an LLVM module in place of the one that the crate {CRATE} gives")
     parser.add_argument("--processor", choices=sorted(TARGETS), action="append", help="on this processor alone")
     parser.add_argument("--optimise", default=SMALL[0], metavar="WORD", help="the compiler's word for it, as --optimise=-O2")
@@ -28,8 +29,8 @@ def print_most(all_played: List[Played]) -> None:
         print(f"  {kind} ({most.calls}): at most {most.instructions} instructions{cycles}, {most.stack} bytes of stack")
 
 
-def play_all(player: Player, sessions: List[Path], calls: bool) -> bool:
-    all_played = [play(player, session) for session in sessions]
+def play_all(player: Player, sessions: List[Session], calls: bool) -> bool:
+    all_played = [play(player, *session) for session in sessions]
     for played in all_played:
         if played.difference:
             print(f"{played.name} on {player.target.name}: {played.difference}")
@@ -42,8 +43,9 @@ def play_all(player: Player, sessions: List[Path], calls: bool) -> bool:
 
 def main(words: List[str]) -> int:
     chosen = arguments(words)
-    sessions = chosen.sessions or sorted(SESSIONS.glob("*.session"))
     try:
+        sessions = [by_hand(session) for session in chosen.sessions or sorted(SESSIONS.glob("*.session"))]
+        sessions += [at_random(number) for number in range(1, chosen.random + 1)]
         module = chosen.module or module_of()
         results = [play_all(Player(module, TARGETS[name], (chosen.optimise,)), sessions, chosen.calls) for name in chosen.processor or TARGETS]
     except (NotBuilt, OSError) as reason:

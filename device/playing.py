@@ -5,6 +5,7 @@ from typing import Dict, Iterable, List, Optional, Tuple
 
 from device import qemu
 from device.building import Player
+from device.reference import random_session
 from device.thumb.calls import Call
 from device.thumb.faults import Fault
 from device.thumb.running import Run, run
@@ -12,6 +13,8 @@ from people.answers import ACCEPTED, BAD_RECORD
 from people.composing import compose
 from people.playing import Step, pair
 
+# A session's name, its records, and the lines that are expected of it.
+Session = Tuple[str, bytes, str]
 STEP = "gustlantern_raw_step"
 FRESH = "gustlantern_raw_fresh"
 
@@ -45,19 +48,29 @@ def first_difference(written: str, expected: str) -> str:
     return ""
 
 
-def play(player: Player, session: Path) -> Played:
-    """Plays a session of the test set in the interpreter, and in qemu where that is installed."""
-    records, expected = compose(session.read_text(encoding="utf-8")), session.with_suffix(".lines").read_text(encoding="utf-8")
-    program = player.program_of(records, session.stem)
+def play(player: Player, name: str, records: bytes, expected: str) -> Played:
+    """Plays a session in the interpreter, and in qemu where that is installed."""
+    program = player.program_of(records, name)
     try:
         ended = run(program, player.target.processor)
     except Fault as fault:
-        return Played(session.stem, records, None, str(fault))
+        return Played(name, records, None, str(fault))
     difference = first_difference(ended.text, expected)
     if not difference and qemu.installed():
         difference = first_difference(qemu.written(program, player.target), expected)
         difference = difference and f"in {qemu.PROGRAM} {difference}"
-    return Played(session.stem, records, ended, difference)
+    return Played(name, records, ended, difference)
+
+
+def by_hand(session: Path) -> Session:
+    """A session of the test set, with the lines that stand beside it."""
+    records = compose(session.read_text(encoding="utf-8"))
+    return session.stem, records, session.with_suffix(".lines").read_text(encoding="utf-8")
+
+
+def at_random(number: int) -> Session:
+    """A random session, with the reference's lines."""
+    return (f"random-{number}", *random_session(number))
 
 
 def kind_of(step: Step) -> str:

@@ -47,14 +47,6 @@ def in_rust() -> str:
     return str(MADE / "rust" / "release" / "examples" / "session")
 
 
-@functools.lru_cache(maxsize=None)
-def reference() -> Path:
-    """The folder of the reference's programs."""
-    target = ROOT / "reference" / "target"
-    cargo("build", ROOT / "reference", target)
-    return target / "release"
-
-
 def players() -> List[Tuple[str, ...]]:
     """Each way to play a session: by record and by fields, in both languages."""
     return [(program, way) for program in (in_c(FOLDER / "session.c"), in_rust()) for way in ("records", "fields")]

@@ -1,16 +1,13 @@
 """Tests of whole sessions: by record and by fields, in C and in Rust, against lines by hand and those of the reference."""
-import subprocess
-import tempfile
 import unittest
 from itertools import zip_longest
-from pathlib import Path
 
+from device.reference import random_session
 from library.tests.expecting import left_behind
-from library.tests.programs import play, players, reference
+from library.tests.programs import play, players
 from people.checking import SESSIONS, names
 from people.composing import compose
 
-SEED = 16
 RANDOM_SESSIONS = 300
 # NoRoom never comes up: a player's buffer has room for every end.
 NUMBERS = {str(number) for number in range(13)} - {"11"}
@@ -40,14 +37,9 @@ class Sessions(unittest.TestCase):
 
     def test_random_sessions(self):
         found = set()
-        with tempfile.TemporaryDirectory() as folder:
-            file = Path(folder) / "records"
-            for number in range(1, RANDOM_SESSIONS + 1):
-                write = ["--write", str(number), "--seed", str(SEED), "--file", str(file)]
-                subprocess.run([str(reference() / "compare"), *write], check=True)
-                records = file.read_bytes()
-                _, lines, _ = play((str(reference() / "bench"),), records)
-                found.update(line.split()[1] for line in lines)
-                with self.subTest(seed=SEED, session=number):
-                    self.agree(records, lines)
+        for number in range(1, RANDOM_SESSIONS + 1):
+            records, printed = random_session(number)
+            found.update(line.split()[1] for line in printed.splitlines())
+            with self.subTest(session=number):
+                self.agree(records, printed.splitlines())
         self.assertEqual(found, NUMBERS)
