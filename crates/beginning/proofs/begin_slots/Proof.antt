@@ -4,7 +4,7 @@ use mathlib.Core.Bool.{false}
 use Rattle.rules.specs.Tables.{withLive}
 use Rattle.tables.specs.Views.{view}
 use Rattle.beginning.specs.Beginnings.{beginSlot}
-use Rattle.beginning.proofs.Walk.{Walk, walk-first, walk-on, walk-done}
+use Rattle.tables.proofs.Walk.{Walk, walk-first, walk-on, walk-done}
 use borrow.Author.Needs.{needs}
 use Rattle.beginning.proofs.begin_slots.Statement.{statement}
 use Rattle.beginning.proofs.begin_slots.Tie as tie

@@ -3,7 +3,7 @@ use Prim.Native.Nat.{_-_}
 use Rattle.objects.specs.Places.{noPair}
 use Rattle.rules.specs.Tables.{withPair}
 use Rattle.tables.specs.Views.{view}
-use Rattle.beginning.proofs.Walk.{Walk, walk-first, walk-on, walk-done}
+use Rattle.tables.proofs.Walk.{Walk, walk-first, walk-on, walk-done}
 use borrow.Author.Needs.{needs}
 use Rattle.beginning.proofs.clear.Statement.{statement}
 use Rattle.beginning.proofs.clear.Tie as tie
