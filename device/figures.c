@@ -1,14 +1,16 @@
-/* Plays the situations that are measured, each by events from fresh tables on. Every call of the library writes a line:
- * what it is, its number and its value; so the lines and the calls can be told by their order. */
+/* Leads the tables, by events from fresh on, into the situations that are measured. Every call of the library writes a
+ * line: what it is, its number and its value. So the lines and the calls go together by their order. */
 #include "gustlantern.h"
 #include "host.h"
 
 /* What a call is that only leads to a situation. */
 #define BEFORE "before"
-
-/* The versions turn over within a chain of all slots. */
+/* The versions turn over while all slots start. */
 #define FIRST_VERSION 0xFFFFFFF8u
-enum { TICK = 0x12345678, ALL = GUSTLANTERN_OBJECTS, CHAIN = GUSTLANTERN_SLOTS };
+
+enum { SLOTS = GUSTLANTERN_SLOTS, OBJECTS = GUSTLANTERN_OBJECTS, TICK = 7 };
+/* Objects are declared from one on up to the last: from ALL on these are all, from OBJECT on it is the last alone. */
+enum { SLOT = 3, ALL = 0, OBJECT = OBJECTS - 1, UNBOUNDED = 0 };
 
 static struct gustlantern_tables tables;
 static uint8_t one_end[GUSTLANTERN_END_BYTES], other_end[GUSTLANTERN_END_BYTES];
@@ -22,7 +24,7 @@ static char *put_text(char *place, const char *text)
 
 static void write_line(const char *label, uint32_t number, uint32_t value)
 {
-    char line[96];
+    char line[120];
     char *place = put_text(line, label);
     *place++ = ' ';
     place = put_number(place, number);
@@ -40,33 +42,23 @@ static uint32_t word_of(uint32_t object)
 
 static void fresh(const char *label)
 {
-    uint32_t words[ALL];
-    for (uint32_t object = 0; object < ALL; object++)
+    uint32_t words[OBJECTS];
+    for (uint32_t object = 0; object < OBJECTS; object++)
         words[object] = word_of(object);
     gustlantern_fresh(&tables, FIRST_VERSION, words);
     write_line(label, GUSTLANTERN_ACCEPTED, 0);
 }
 
-/* Starts a transaction on some objects, from one on and so far apart, all with one supremum. */
-static void start(const char *label, uint8_t slot, uint8_t object, uint8_t apart, uint8_t supremum)
+/* Declares the objects from one on. */
+static void start(const char *label, uint8_t slot, uint8_t object, uint8_t supremum)
 {
-    uint8_t list[2 * ALL];
+    uint8_t list[2 * OBJECTS];
     size_t length = 0;
-    for (; object < ALL; object += apart) {
+    for (; object < OBJECTS; object++) {
         list[length++] = object;
         list[length++] = supremum;
     }
     write_line(label, gustlantern_start(&tables, slot, list, length), 0);
-}
-
-static void start_one(const char *label, uint8_t slot, uint8_t object, uint8_t supremum)
-{
-    start(label, slot, object, ALL, supremum);
-}
-
-static void start_all(const char *label, uint8_t slot, uint8_t supremum)
-{
-    start(label, slot, 0, 1, supremum);
 }
 
 static void call(const char *label, uint8_t slot, uint8_t object, uint8_t kind, uint32_t argument)
@@ -78,13 +70,8 @@ static void call(const char *label, uint8_t slot, uint8_t object, uint8_t kind, 
 
 static void call_all(uint8_t slot)
 {
-    for (uint8_t object = 0; object < ALL; object++)
+    for (uint8_t object = 0; object < OBJECTS; object++)
         call(BEFORE, slot, object, GUSTLANTERN_ADD, 1);
-}
-
-static void release(const char *label, uint8_t slot, uint8_t object)
-{
-    write_line(label, gustlantern_release(&tables, slot, object), 0);
 }
 
 static void commit(const char *label, uint8_t slot, uint8_t *end)
@@ -101,38 +88,140 @@ static void rollback(const char *label, uint8_t slot)
     write_line(label, number, value);
 }
 
-static void chain(void)
+static void step(const char *label, const uint8_t *record, size_t length)
 {
-    fresh(BEFORE);
-    for (uint8_t slot = 0; slot < CHAIN; slot++)
-        start_all(BEFORE, slot, 1);
-    for (uint8_t slot = 0; slot < CHAIN; slot++)
-        call_all(slot);
-}
-static void explore(void)
-{
-    for (uint8_t kind = 0; kind < 4; kind++) {
-    fresh(BEFORE); start_one("start 1", 3, 5, 0); call("first add", 3, 5, 2, 3); call("more", 3, 5, 2, 3); release("release",3,5); commit("commit1", 3, one_end);
-    fresh(BEFORE); start_one("start 1", 15, 23, 0); call("first spend refused", 15, 23, 3, 5000); rollback("rollback1", 15);
-    fresh(BEFORE); start_one("start 1", 15, 23, 0); call("first spend", 15, 23, 3, 500); rollback("rollback1", 15);
-    if (kind) break;
-    }
-    for (uint8_t kind = 0; kind < 3; kind++) {
-    fresh(BEFORE); start_all("start 24", 3, kind); commit("commit24 uncalled",3, one_end);
-    fresh(BEFORE); start_all("start 24", 3, kind); call_all(3); commit("commit24",3, one_end);
-    fresh(BEFORE); start_all("start 24", 3, kind); call_all(3); rollback("rollback24",3);
-    fresh(BEFORE); start_all("start 24", 3, kind); rollback("rollback24 uncalled",3);
-    fresh(BEFORE); start_all("start 24", 15, kind); call_all(15); rollback("rollback24",15);
-    }
-    chain(); commit("commit first", 0, one_end); for (uint8_t s = 1; s < 15; s++) commit(BEFORE, s, one_end); commit("commit last", 15, one_end);
-    chain(); rollback("rollback first", 0); commit("doomed", 1, one_end); call("doomed call", 1, 3, 2, 3); rollback("rollback spoiled", 1); rollback("wait", 5); for (uint8_t s = 2; s < 16; s++) rollback("rollback", s);
-    chain(); commit(BEFORE, 0, one_end); rollback("rollback second", 1);
-    fresh("fresh");
+    uint32_t value;
+    uint32_t number = gustlantern_step(&tables, record, length, one_end, sizeof one_end, &value);
+    write_line(label, number, value);
 }
 
+/* Two end records, of so many entries. */
+static void came_first(const char *label, size_t entries, size_t other_entries)
+{
+    uint32_t order;
+    uint32_t number = gustlantern_came_first(one_end, 10 + 5 * entries, other_end, 10 + 5 * other_entries, &order);
+    write_line(label, number, order);
+}
+
+static void play_one_object(void)
+{
+    static const uint8_t add_3[] = {8, 0, 0x02, 0x01, SLOT, OBJECT, GUSTLANTERN_ADD, 0, 3, 0, 0, 0};
+    fresh("fresh");
+    start("start, 1 object", SLOT, OBJECT, 4);
+    call("call, first on its object, add", SLOT, OBJECT, GUSTLANTERN_ADD, 1);
+    call("call, further, add", SLOT, OBJECT, GUSTLANTERN_ADD, 2);
+    step("step, call, further, add", add_3, sizeof add_3);
+    call("call, reaches the supremum, add", SLOT, OBJECT, GUSTLANTERN_ADD, 4);
+    commit("commit, 1 object", SLOT, one_end);
+
+    start(BEFORE, SLOT, OBJECT, UNBOUNDED);
+    call("call, first on its object, spend, no supremum", SLOT, OBJECT, GUSTLANTERN_SPEND, 10);
+    rollback("rollback, 1 called object", SLOT);
+}
+
+static void play_refusals(void)
+{
+    fresh(BEFORE);
+    start(BEFORE, SLOT, OBJECT, UNBOUNDED);
+    start(BEFORE, SLOT + 1, ALL, UNBOUNDED);
+    call("call, refused with Wait", SLOT + 1, OBJECT, GUSTLANTERN_ADD, 1);
+    call("call, refused with BadSlot", SLOTS, OBJECT, GUSTLANTERN_ADD, 1);
+    commit("commit, 24 objects, refused with Wait", SLOT + 1, one_end);
+    write_line("release", gustlantern_release(&tables, SLOT, OBJECT), 0);
+}
+
+static void play_all_objects(void)
+{
+    fresh(BEFORE);
+    start("start, 24 objects", SLOT, ALL, UNBOUNDED);
+    call_all(SLOT);
+    commit("commit, 24 objects", SLOT, one_end);
+    start(BEFORE, SLOT, ALL, UNBOUNDED);
+    call_all(SLOT);
+    rollback("rollback, 24 called objects, no other slot live", SLOT);
+}
+
+/* Every slot has called every object once, in start order, and let it go by that. */
+static void make_chain(void)
+{
+    fresh(BEFORE);
+    for (uint8_t slot = 0; slot < SLOTS; slot++)
+        start(BEFORE, slot, ALL, 1);
+    for (uint8_t slot = 0; slot < SLOTS; slot++)
+        call_all(slot);
+}
+
+/* Whether every word is as at first, and every slot but the first is spoiled on every object. */
+static int undone(void)
+{
+    for (uint32_t pair = OBJECTS; pair < GUSTLANTERN_PAIRS; pair++)
+        if (!tables.marks[GUSTLANTERN_SPOILED_AT(pair)])
+            return 0;
+    for (uint32_t object = 0; object < OBJECTS; object++)
+        if (tables.words[GUSTLANTERN_WORD_AT(object)] != word_of(object))
+            return 0;
+    return 1;
+}
+
+static void play_chains(void)
+{
+    static const uint8_t rollback_first[] = {5, 0, 0x05, 0x01, 0, TICK, 0, 0, 0};
+    make_chain();
+    rollback("rollback, 24 called objects, 15 slots spoiled on each", 0);
+    if (!undone())
+        write_line("the rollback left something", 0, 0);
+    make_chain();
+    step("step, rollback, 24 called objects, 15 slots spoiled on each", rollback_first, sizeof rollback_first);
+    if (!undone())
+        write_line("the rollback by its record left something", 0, 0);
+    make_chain();
+    commit("commit, 24 objects, the first of 16 slots", 0, one_end);
+    for (uint8_t slot = 1; slot < SLOTS - 1; slot++)
+        commit(BEFORE, slot, one_end);
+    commit("commit, 24 objects, the last of 16 slots", SLOTS - 1, one_end);
+}
+
+/* Two records of all objects meet at once. The walk of one list inside the other is longest where it finds the first
+ * half of all objects missing. */
+static void play_orders(void)
+{
+    enum { HALF = 13 };
+    fresh(BEFORE);
+    start(BEFORE, 0, ALL, 1);
+    start(BEFORE, 1, ALL, 1);
+    commit(BEFORE, 0, one_end);
+    commit(BEFORE, 1, other_end);
+    came_first("came_first, 24 and 24 entries", OBJECTS, OBJECTS);
+    start(BEFORE, 0, ALL, 1);
+    start(BEFORE, 1, OBJECTS - HALF, 1);
+    commit(BEFORE, 0, one_end);
+    commit(BEFORE, 1, other_end);
+    came_first("came_first, 24 and 13 entries, the longest search", OBJECTS, HALF);
+}
+
+static void play_looks(void)
+{
+    struct gustlantern_object object;
+    struct gustlantern_pair pair;
+    uint32_t number;
+    fresh(BEFORE);
+    start(BEFORE, SLOT, OBJECT, 1);
+    number = gustlantern_look_object(&tables, OBJECT, &object);
+    write_line("look_object", number, object.word);
+    number = gustlantern_look_pair(&tables, SLOT, OBJECT, &pair);
+    write_line("look_pair", number, pair.private_version);
+    number = gustlantern_marks_hold(&tables);
+    write_line("marks_hold", number, 0);
+}
+
+/* The first line is of no call: it has the bytes of the tables. */
 void play(void)
 {
-    explore();
-    (void)release;
-    (void)other_end;
+    write_line("tables", sizeof tables, 0);
+    play_one_object();
+    play_refusals();
+    play_all_objects();
+    play_chains();
+    play_orders();
+    play_looks();
 }

@@ -1,12 +1,14 @@
 /* Supremum versioning for the tasks of a pump: 16 slots, 24 objects, all memory lent by the caller.
  *
  * Every function takes every argument, finishes, and answers a number of `enum gustlantern_number`; a refusal changes
- * nothing. No function keeps a pointer, blocks, allocates or prints. The numbers at a function are its refusals, in the
- * order in which they are tried.
+ * no byte of the tables or of a buffer, and its value is 0. No function keeps a pointer, blocks, allocates or prints.
+ * The numbers at a function are its refusals, in the order in which they are tried.
  *
  * The caller owes: no pointer is null, also where its length is 0; each is aligned for its type; no two of one call
  * overlap; every mark is 0 or 1, also before the tables are fresh (memory of zeros is so, gustlantern_marks_hold checks
  * it); one caller at a time, with interrupts off or under one lock.
+ *
+HEADBUDGET
  */
 #ifndef GUSTLANTERN_H
 #define GUSTLANTERN_H
@@ -118,7 +120,8 @@ static inline void gustlantern_fresh(struct gustlantern_tables *tables, uint32_t
     gustlantern_raw_fresh(tables->words, tables->bytes, tables->marks, first, words);
 }
 
-/* A transaction begins: `list` holds pairs of bytes, object and supremum, objects rising. 1, 4, 3, 2. */
+/* A transaction begins: `list` holds pairs of bytes, object and supremum, objects rising. 1, 4, 3 for
+ * its length, then pair by pair 2, 3. */
 static inline uint32_t gustlantern_start(struct gustlantern_tables *tables, uint8_t slot, const uint8_t *list,
                                          size_t length)
 {

@@ -7,7 +7,7 @@ ghost use Rattle.rules.specs.Effects.{clearSlot, declareOne, declareAll};
 ghost use Rattle.rules.specs.Steps.{startStep};
 ghost use Rattle.rules.specs.Tables.{freshTables};
 ghost use Rattle.rules.specs.Walks.{eachBelow};
-ghost use Rattle.starts.proofs.StartLoops.{Within};
+ghost use Rattle.starts.specs.Listed.{ListedBelow};
 ghost use Rattle.tables.specs.Places.{wordsLong, Fits};
 ghost use Rattle.tables.specs.Views.{view, Become, WordsBecome, Steps};
 use answers::Answer;
@@ -63,7 +63,7 @@ fn declare_all(
     s: u32,
     list: &[u8],
 )
-    requires { ⌜ Fits size (now words) (now bytes) (now marks) × (s < size .slots) × Within (size .objects) (now list) ⌝ }
+    requires { ⌜ Fits size (now words) (now bytes) (now marks) × (s < size .slots) × ListedBelow (size .objects) (now list) ⌝ }
     ensures { λ _. ⌜ Become size (now (words .entry)) (now (bytes .entry)) (now (marks .entry)) (now (words .exit)) (now (bytes .exit)) (now (marks .exit)) (declareAll size s (now (list .entry))) ⌝ }
 {
     let mut next: usize = 0;

@@ -55,11 +55,11 @@ abbrev pub looked : List Rule → List ℕ → List ℕ → Look
 looked rules before shown =
     decide rules (λ refusal. record { number = numberOf refusal; words = before }) (record { number = 0; words = shown })
 
-abbrev pub objectRules : ℕ → List Rule
-objectRules number = BadObject when leb (base .objects) number ∷ []
+abbrev pub lookObjectRules : ℕ → List Rule
+lookObjectRules number = BadObject when leb (base .objects) number ∷ []
 
-abbrev pub pairRules : ℕ → ℕ → List Rule
-pairRules slot number = BadSlot when leb (base .slots) slot ∷ BadObject when leb (base .objects) number ∷ []
+abbrev pub lookPairRules : ℕ → ℕ → List Rule
+lookPairRules slot number = BadSlot when leb (base .slots) slot ∷ BadObject when leb (base .objects) number ∷ []
 
 -- 1 where every byte is 0 or 1
 abbrev pub holdOf : List ℕ → ℕ

@@ -10,7 +10,7 @@ ghost use Rattle.rules.specs.Tables.{noObject};
 ghost use Rattle.rules.specs.Walks.{anyBelow};
 ghost use Rattle.tables.specs.Views.{objectsOf, liveOf};
 ghost use Rattle.pump.specs.Looks.{pairSeen};
-ghost use Rattle.kernel.specs.Shown.{codeOf, orderOf, Look, looked, bitOf, objectWords, pairWords, objectRules, pairRules, holdOf};
+ghost use Rattle.kernel.specs.Shown.{codeOf, orderOf, Look, looked, bitOf, objectWords, pairWords, lookObjectRules, lookPairRules, holdOf};
 use answers::Answer;
 use answers::Refusal;
 use counters::Comparison;
@@ -55,7 +55,7 @@ fn code(comparison: Comparison) -> u32
 
 #[no_mangle]
 pub extern "C" fn gustlantern_raw_object(words: &[u32; 864], object: u8, seen: &mut [u32; 4]) -> u32
-    ensures { λ r. ⌜ _≡_ {A = Look} (record { number = r; words = now (seen .exit) }) (looked (objectRules object) (now (seen .entry)) (objectWords (getD (objectsOf base (now (words .entry))) object noObject))) ⌝ }
+    ensures { λ r. ⌜ _≡_ {A = Look} (record { number = r; words = now (seen .exit) }) (looked (lookObjectRules object) (now (seen .entry)) (objectWords (getD (objectsOf base (now (words .entry))) object noObject))) ⌝ }
 {
     if OBJECTS <= object {
         return Refusal::BadObject.number();
@@ -86,7 +86,7 @@ pub extern "C" fn gustlantern_raw_pair(
     object: u8,
     seen: &mut [u32; 8],
 ) -> u32
-    ensures { λ r. ⌜ _≡_ {A = Look} (record { number = r; words = now (seen .exit) }) (looked (pairRules slot object) (now (seen .entry)) (pairWords (getD (liveOf base (now (marks .entry))) slot false) (pairSeen (now (words .entry)) (now (bytes .entry)) (now (marks .entry)) slot object))) ⌝ }
+    ensures { λ r. ⌜ _≡_ {A = Look} (record { number = r; words = now (seen .exit) }) (looked (lookPairRules slot object) (now (seen .entry)) (pairWords (getD (liveOf base (now (marks .entry))) slot false) (pairSeen (now (words .entry)) (now (bytes .entry)) (now (marks .entry)) slot object))) ⌝ }
 {
     if SLOTS <= slot {
         return Refusal::BadSlot.number();

@@ -18,18 +18,13 @@ use Rattle.rules.specs.Effects.{clearSlot, declareOne, declareAll, startEffect}
 use Rattle.rules.specs.Refusing.{pairRules, startRules}
 use Rattle.rules.specs.Steps.{Stepping, unchanged, startStep}
 use Rattle.rules.specs.Tables.{State, liveAt, withLive}
+use Rattle.starts.specs.Listed.{ListedBelow}
 use Rattle.starts.proofs.PairWalk.{pair-first}
 use Rattle.verdicts.proofs.Saying.{when-refuses}
 use Rattle.verdicts.specs.declared.Verdict.{Verdict}
 use Rattle.verdicts.specs.declared.Verdict.the-variants.{Passes, Refuses}
 
--- every listed object is below the bound
-abbrev pub Within : ℕ → List ℕ → Type 0
-Within bound (object ∷ supremum ∷ rest) = (object < bound) × Within bound rest
-Within bound (object ∷ []) = Unit {0}
-Within bound [] = Unit {0}
-
-passed-within : (z : Size) (least : ℕ) (list : List ℕ) → deciding.Passes (pairRules z least list) → Within (z .objects) list
+passed-within : (z : Size) (least : ℕ) (list : List ℕ) → deciding.Passes (pairRules z least list) → ListedBelow (z .objects) list
 passed-within z least (object ∷ supremum ∷ rest) p = (leb-false _ _ (p .0), passed-within z (object + 1) rest (p .1 .1))
 passed-within z least (object ∷ []) p = tt
 passed-within z least [] p = tt
@@ -37,7 +32,7 @@ passed-within z least [] p = tt
 -- what the loop keeps: the pairs that are left are declared in the tables as they are now
 pub record Declaring (z : Size) (s : ℕ) (list : List ℕ) (next : ℕ) (t₀ t : State) : Type 0 where
   pub reached : next ≤ length list
-  pub within : Within (z .objects) (drop next list)
+  pub within : ListedBelow (z .objects) (drop next list)
   pub declared : declareAll z s list t₀ ≡ declareAll z s (drop next list) t
 
 declare-none : (z : Size) (s : ℕ) (l : List ℕ) (t : State) → length l ≤ 1 → declareAll z s l t ≡ t
@@ -47,7 +42,7 @@ declare-none z s [] t none = refl
 
 module _ {z : Size} {s : ℕ} {list : List ℕ} {next : ℕ} {t₀ t : State} (declaring : Declaring z s list next t₀ t) where
   module _ (more : 1 < length list - next) where
-    left-within : Within (z .objects) (getD list next 0 ∷ getD list (next + 1) 0 ∷ drop (next + 2) list)
+    left-within : ListedBelow (z .objects) (getD list next 0 ∷ getD list (next + 1) 0 ∷ drop (next + 2) list)
     left-within = rw (pair-first list next more) at (declaring .within)
 
     pub next-within : getD list next 0 < z .objects
@@ -104,7 +99,7 @@ module _ {z : Size} {t : State} {slot s : ℕ} {list : List ℕ} {live : Bool} {
     passed : deciding.Passes rules
     passed = all-pass rules (sym (judged .is-verdict) ∙ passes)
 
-    pub list-within : Within (z .objects) list
+    pub list-within : ListedBelow (z .objects) list
     list-within = passed-within z 0 list (passed .1 .1 .1)
 
     pub start-passed : (t₁ t₂ t₃ : State) → t₁ ≡ clearSlot z s t → t₂ ≡ declareAll z s list t₁ → t₃ ≡ withLive t₂ s true

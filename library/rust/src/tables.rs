@@ -77,7 +77,8 @@ impl Tables {
         (&mut self.words, &mut self.bytes, &mut self.marks)
     }
 
-    /// A transaction begins; the list holds pairs of bytes, object and supremum, objects rising. 1, 4, 3, 2.
+    /// A transaction begins; the list holds pairs of bytes, object and supremum, objects rising. 1, 4, 3 for
+    /// its length, then pair by pair 2, 3.
     pub fn start(&mut self, slot: u8, list: &[u8]) -> Result<(), Refusal> {
         let (words, bytes, marks) = self.parts();
         // SAFETY: as the type says; the list is read within its length.

@@ -3,7 +3,7 @@ use mathlib.Core.Path.{sym, _∙_}
 use Rattle.answers.proofs.Deciding.{passed}
 use Rattle.answers.specs.Numbers.{numberOf}
 use borrow.Author.Tests.{le-leb, lt-leb}
-use Rattle.kernel.specs.Shown.{pairWords, pairRules}
+use Rattle.kernel.specs.Shown.{pairWords, lookPairRules}
 use borrow.Author.Needs.{needs}
 use Rattle.kernel.proofs.shown.gustlantern_raw_pair.Statement.{statement}
 use Rattle.kernel.proofs.shown.gustlantern_raw_pair.Tie as tie
@@ -26,7 +26,7 @@ returns-3 c =
     let a = inside .before .before .args in
     (λ i. record { number = 0; words = shown i })
     ∙ sym
-    (passed (pairRules (a .slot) (a .object)) (λ refusal. record { number = numberOf refusal; words = a .seen .now }) _
+    (passed (lookPairRules (a .slot) (a .object)) (λ refusal. record { number = numberOf refusal; words = a .seen .now }) _
     (lt-leb _ _ (inside .before .if1 .left), (lt-leb _ _ (inside .if2 .left), tt)))
 
 pub gustlantern-raw-pair-spec : {M : Type 1} → statement M
