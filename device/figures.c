@@ -49,15 +49,21 @@ static void fresh(const char *label)
     write_line(label, GUSTLANTERN_ACCEPTED, 0);
 }
 
-/* Declares the objects from one on. */
-static void start(const char *label, uint8_t slot, uint8_t object, uint8_t supremum)
+/* Puts a start's list of the objects from one on at a place, and gives its length. */
+static size_t put_list(uint8_t *list, uint8_t object, uint8_t supremum)
 {
-    uint8_t list[2 * OBJECTS];
     size_t length = 0;
     for (; object < OBJECTS; object++) {
         list[length++] = object;
         list[length++] = supremum;
     }
+    return length;
+}
+
+static void start(const char *label, uint8_t slot, uint8_t object, uint8_t supremum)
+{
+    uint8_t list[2 * OBJECTS];
+    size_t length = put_list(list, object, supremum);
     write_line(label, gustlantern_start(&tables, slot, list, length), 0);
 }
 
@@ -72,6 +78,11 @@ static void call_all(uint8_t slot)
 {
     for (uint8_t object = 0; object < OBJECTS; object++)
         call(BEFORE, slot, object, GUSTLANTERN_ADD, 1);
+}
+
+static void release(const char *label, uint8_t slot, uint8_t object)
+{
+    write_line(label, gustlantern_release(&tables, slot, object), 0);
 }
 
 static void commit(const char *label, uint8_t slot, uint8_t *end)
@@ -115,7 +126,7 @@ static void play_one_object(void)
     commit("commit, 1 object", SLOT, one_end);
 
     start(BEFORE, SLOT, OBJECT, UNBOUNDED);
-    call("call, first on its object, spend, no supremum", SLOT, OBJECT, GUSTLANTERN_SPEND, 10);
+    call("call, first on its object, spend too much, no supremum", SLOT, OBJECT, GUSTLANTERN_SPEND, 10000);
     rollback("rollback, 1 called object", SLOT);
 }
 
@@ -127,18 +138,33 @@ static void play_refusals(void)
     call("call, refused with Wait", SLOT + 1, OBJECT, GUSTLANTERN_ADD, 1);
     call("call, refused with BadSlot", SLOTS, OBJECT, GUSTLANTERN_ADD, 1);
     commit("commit, 24 objects, refused with Wait", SLOT + 1, one_end);
-    write_line("release", gustlantern_release(&tables, SLOT, OBJECT), 0);
+    release("release, refused with Wait", SLOT + 1, OBJECT);
+    release("release, accepted", SLOT, OBJECT);
 }
 
 static void play_all_objects(void)
 {
+    uint8_t record[6 + 2 * OBJECTS] = {2 + 2 * OBJECTS, 0, 0x01, 0x01, SLOT, OBJECTS};
+    put_list(record + 6, ALL, UNBOUNDED);
     fresh(BEFORE);
     start("start, 24 objects", SLOT, ALL, UNBOUNDED);
     call_all(SLOT);
     commit("commit, 24 objects", SLOT, one_end);
-    start(BEFORE, SLOT, ALL, UNBOUNDED);
+    step("step, start, 24 objects", record, sizeof record);
     call_all(SLOT);
     rollback("rollback, 24 called objects, no other slot live", SLOT);
+}
+
+/* An object that was let go uncalled, and called by another slot since, is the dearest to commit. */
+static void play_objects_let_go(void)
+{
+    fresh(BEFORE);
+    start(BEFORE, SLOT, ALL, UNBOUNDED);
+    start(BEFORE, SLOT + 1, ALL, 1);
+    for (uint8_t object = 0; object < OBJECTS; object++)
+        release(BEFORE, SLOT, object);
+    call_all(SLOT + 1);
+    commit("commit, 24 objects, let go uncalled and called by another slot", SLOT, one_end);
 }
 
 /* Every slot has called every object once, in start order, and let it go by that. */
@@ -175,8 +201,7 @@ static void play_chains(void)
     if (!undone())
         write_line("the rollback by its record left something", 0, 0);
     make_chain();
-    commit("commit, 24 objects, the first of 16 slots", 0, one_end);
-    for (uint8_t slot = 1; slot < SLOTS - 1; slot++)
+    for (uint8_t slot = 0; slot < SLOTS - 1; slot++)
         commit(BEFORE, slot, one_end);
     commit("commit, 24 objects, the last of 16 slots", SLOTS - 1, one_end);
 }
@@ -221,6 +246,7 @@ void play(void)
     play_one_object();
     play_refusals();
     play_all_objects();
+    play_objects_let_go();
     play_chains();
     play_orders();
     play_looks();
