@@ -1,6 +1,7 @@
-// The numbers a task can get back: the refusals of the paper's table, and an answer with its value.
+// The numbers a task can get back: the refusals, an answer with its value, and a verdict of the rules.
 ghost use mathlib.Core.Path.{_≡_};
 ghost use Rattle.answers.specs.Numbers.{numberOf, replyOf};
+ghost use mathlib.Core.Bool.{_||_};
 
 // The table's names, in its order.
 pub enum Refusal {
@@ -65,4 +66,16 @@ impl Answer {
             Answer::Refused(_) => 0,
         }
     }
+}
+
+pub enum Verdict {
+    Passes,
+    Refuses(Refusal),
+}
+
+// a or b, with no branch for a caller's loop to join.
+pub fn either(a: bool, b: bool) -> bool
+    ensures { λ r. ⌜ r ≡ (a || b) ⌝ }
+{
+    if a { true } else { b }
 }

@@ -9,7 +9,7 @@ pub struct Hand {
 }
 
 // The most bytes that a record has.
-const RECORD_LIMIT: usize = 4 + layout::kind::BODY_LIMIT;
+const RECORD_LIMIT: usize = 4 + record_layout::kind::BODY_LIMIT;
 
 // Where a record may reach past the bytes at hand, they move to the front and the buffer is filled again. A buffer that
 // is not full to its end has the end of the input.
@@ -25,7 +25,7 @@ pub fn fill(buffer: &mut [u8], hand: Hand) -> Hand
     if RECORD_LIMIT <= end - from {
         return hand;
     }
-    let kept = lines::buffers::to_front(buffer, from);
+    let kept = bench_lines::buffers::to_front(buffer, from);
     let more = io::read_full(0, &mut buffer[kept..]);
     Hand {
         from: 0,

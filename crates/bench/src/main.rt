@@ -13,7 +13,7 @@ fn main() {
     let mut bytes = io::large_buffer();
     let mut lines = io::large_buffer();
     let read = io::read_full(0, &mut bytes);
-    let first = session::first(&bytes[..read]);
+    let first = bench_records::first(&bytes[..read]);
     let answer = first.answer;
     let mut used = output::put(0, first.prints, answer, &mut lines, 0);
     let mut tables = first.tables;
@@ -26,7 +26,7 @@ fn main() {
         hand = input::fill(&mut bytes, hand);
         let from = hand.from;
         let end = hand.end;
-        let next = session::next(tables, &bytes[from..end]);
+        let next = bench_records::next(tables, &bytes[from..end]);
         let answer = next.answer;
         used = output::put(event, next.prints, answer, &mut lines, used);
         let given = next.tables;

@@ -2,7 +2,7 @@
 ghost use Prim.Native.Nat.{_≤_};
 ghost use lib.ListN.{length};
 use answers::Answer;
-use lines::LIMIT;
+use bench_lines::LIMIT;
 
 // The line of a record that prints one, behind those that wait in the buffer; they are written first where there may be
 // no room for it.
@@ -14,8 +14,8 @@ pub fn put(event: u64, prints: bool, answer: Answer, buffer: &mut [u8], used: us
         return used;
     }
     if LIMIT <= buffer.len() - used {
-        return used + lines::put(event, answer, buffer, used);
+        return used + bench_lines::put(event, answer, buffer, used);
     }
     io::write_all(1, &buffer[..used]);
-    lines::put(event, answer, buffer, 0)
+    bench_lines::put(event, answer, buffer, 0)
 }

@@ -3,7 +3,7 @@ use Prim.Native.Nat.{ℕ}
 use mathlib.Core.List.{List}
 use mathlib.Core.Path.{_≡_}
 use Rattle.counters.specs.Sizes.{base}
-use Rattle.layout.specs.declared.fields.Fields.{Fields}
+use Rattle.record_layout.specs.declared.fields.Fields.{Fields}
 use Rattle.machine.specs.Views.{view, ended}
 use Rattle.machine.specs.declared.Tables.{Tables}
 use Rattle.machine.specs.declared.Stepped.{Stepped}

@@ -1,9 +1,9 @@
 // How a run begins and goes on, by value: fresh tables, an event by its fields, an event by its bytes.
 ghost use Rattle.events.specs.Promises.{FreshGives, StepGives, RecordGives};
 use counters::Version;
-use layout::fields::Fields;
 use machine::Stepped;
 use machine::Tables;
+use record_layout::fields::Fields;
 
 // Given a word for each object and a first version, all three versions of every object are that version and no slot
 // is live.

@@ -12,8 +12,8 @@ use Rattle.counters.specs.declared.Comparison.{Comparison}
 use Rattle.counters.specs.declared.Comparison.the-variants.{A, B, Same, Far}
 use Rattle.objects.specs.declared.Object.{Object}
 use Rattle.objects.specs.declared.Pair.{Pair}
-use Rattle.order.specs.declared.CameFirst.{CameFirst}
-use Rattle.order.specs.declared.CameFirst.the-variants.{Compared, Unrelated, Refused}
+use Rattle.record_order.specs.declared.CameFirst.{CameFirst}
+use Rattle.record_order.specs.declared.CameFirst.the-variants.{Compared, Unrelated, Refused}
 use Rattle.rules.specs.Walks.{anyBelow}
 
 -- the numbers that stand for the names of 'Which came first'

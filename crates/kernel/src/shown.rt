@@ -5,7 +5,7 @@ ghost use lib.Dec.{ltb};
 ghost use lib.ListN.{length, getD};
 ghost use Rattle.answers.specs.Numbers.{Reply, replyOf};
 ghost use Rattle.counters.specs.Sizes.{base};
-ghost use Rattle.order.specs.CameFirst.{cameFirst};
+ghost use Rattle.record_order.specs.CameFirst.{cameFirst};
 ghost use Rattle.rules.specs.Tables.{noObject};
 ghost use Rattle.rules.specs.Walks.{anyBelow};
 ghost use Rattle.tables.specs.Views.{objectsOf, liveOf};
@@ -20,14 +20,14 @@ use counters::SLOTS;
 use counters::SlotNo;
 use objects::Object;
 use objects::Pair;
-use order::CameFirst;
 use pump::looks;
+use record_order::CameFirst;
 
 #[no_mangle]
 pub extern "C" fn gustlantern_raw_came_first(a: &[u8], b: &[u8], order: &mut u32) -> u32
     ensures { λ r. ⌜ _≡_ {A = Reply} (record { number = r; value = now (order .exit) }) (orderOf (cameFirst base (now (a .entry)) (now (b .entry)))) ⌝ }
 {
-    let answer = told(order::came_first(a, b));
+    let answer = told(record_order::came_first(a, b));
     *order = answer.value();
     answer.number()
 }
@@ -140,7 +140,7 @@ fn exceeds(bytes: &[u8]) -> bool
     let mut found = false;
     let mut i: usize = 0;
     while i < bytes.len() {
-        found = verdicts::either(found, 1 < bytes[i]);
+        found = answers::either(found, 1 < bytes[i]);
         i = i + 1;
     }
     found

@@ -8,7 +8,7 @@ use Rattle.answers.proofs.Tells.{reply-tells}
 use Rattle.answers.specs.Numbers.{replyOf}
 use Rattle.answers.specs.declared.Answer.{Answer}
 use Rattle.counters.specs.Sizes.{base}
-use Rattle.layout.specs.declared.fields.Fields.{Fields}
+use Rattle.record_layout.specs.declared.fields.Fields.{Fields}
 use Rattle.rules.specs.Steps.{Outcome, eventStep, recordStep}
 use Rattle.rules.proofs.Refused.{AllUnchanged, event-refused, record-refused}
 use Rattle.tables.specs.Places.{Fits}

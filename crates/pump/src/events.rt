@@ -9,8 +9,8 @@ use crate::release;
 use crate::start;
 use answers::Answer;
 use answers::Refusal;
-use layout::fields::Fields;
-use layout::fields::Reading;
+use record_layout::fields::Fields;
+use record_layout::fields::Reading;
 
 // The list is the one that stands beside the fields. A fresh or an end record is no event.
 pub fn step(
@@ -50,8 +50,8 @@ pub fn step_record(
 ) -> Answer
     ensures { λ r. ⌜ leftWith (now (words .exit)) (now (bytes .exit)) (now (marks .exit)) r (now (buf .exit)) ≡ recordStep base (held (now (words .entry)) (now (bytes .entry)) (now (marks .entry))) (now (given .entry)) (now (buf .entry)) ⌝ }
 {
-    let Reading::Fields(fields) = reader::read(given) else {
+    let Reading::Fields(fields) = record_read::read(given) else {
         return Answer::Refused(Refusal::BadRecord);
     };
-    step(words, bytes, marks, fields, reader::list(given), buf)
+    step(words, bytes, marks, fields, record_read::list(given), buf)
 }

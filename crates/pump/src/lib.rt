@@ -31,7 +31,7 @@ pub fn fresh(
 )
     ensures { λ _. ⌜ held (now (words .exit)) (now (bytes .exit)) (now (marks .exit)) ≡ freshTables base (now (given .entry)) (first .0) ⌝ }
 {
-    beginning::fresh(words, bytes, marks, PUMP, first, given);
+    step_start::fresh(words, bytes, marks, PUMP, first, given);
 }
 
 pub fn start(
@@ -43,7 +43,7 @@ pub fn start(
 ) -> Answer
     ensures { λ r. ⌜ left (now (words .exit)) (now (bytes .exit)) (now (marks .exit)) r ≡ startStep base (held (now (words .entry)) (now (bytes .entry)) (now (marks .entry))) (slot .0) (now (list .entry)) ⌝ }
 {
-    beginning::start(words, bytes, marks, PUMP, slot, list)
+    step_start::start(words, bytes, marks, PUMP, slot, list)
 }
 
 pub fn call(
@@ -57,7 +57,7 @@ pub fn call(
 ) -> Answer
     ensures { λ r. ⌜ left (now (words .exit)) (now (bytes .exit)) (now (marks .exit)) r ≡ callStep base (held (now (words .entry)) (now (bytes .entry)) (now (marks .entry))) (slot .0) (number .0) kind argument ⌝ }
 {
-    acting::call(words, bytes, marks, PUMP, slot, number, kind, argument)
+    step_call::call(words, bytes, marks, PUMP, slot, number, kind, argument)
 }
 
 pub fn release(
@@ -69,7 +69,7 @@ pub fn release(
 ) -> Answer
     ensures { λ r. ⌜ left (now (words .exit)) (now (bytes .exit)) (now (marks .exit)) r ≡ releaseStep base (held (now (words .entry)) (now (bytes .entry)) (now (marks .entry))) (slot .0) (number .0) ⌝ }
 {
-    acting::release(words, bytes, marks, PUMP, slot, number)
+    step_call::release(words, bytes, marks, PUMP, slot, number)
 }
 
 // Commit, and rollback where it is one.
@@ -84,5 +84,5 @@ pub fn end(
 ) -> Answer
     ensures { λ r. ⌜ leftWith (now (words .exit)) (now (bytes .exit)) (now (marks .exit)) r (now (buf .exit)) ≡ endStep base rollback (held (now (words .entry)) (now (bytes .entry)) (now (marks .entry))) (slot .0) tick (now (buf .entry)) ⌝ }
 {
-    ending::end(words, bytes, marks, PUMP, slot, tick, rollback, buf)
+    step_end::end(words, bytes, marks, PUMP, slot, tick, rollback, buf)
 }

@@ -7,11 +7,11 @@ use mathlib.Core.Path.{_≡_, refl}
 use lib.Dec.{eqb}
 use borrow.Author.Tests.{eqb-true, eqb-false}
 use Rattle.counters.specs.Sizes.{Size}
-use Rattle.layout.specs.Reading.{reading, listing}
-use Rattle.layout.specs.declared.fields.Fields.{Fields}
-use Rattle.layout.specs.declared.fields.Fields
-use Rattle.layout.specs.declared.fields.Reading.{Reading}
-use Rattle.layout.specs.declared.fields.Reading
+use Rattle.record_layout.specs.Reading.{reading, listing}
+use Rattle.record_layout.specs.declared.fields.Fields.{Fields}
+use Rattle.record_layout.specs.declared.fields.Fields
+use Rattle.record_layout.specs.declared.fields.Reading.{Reading}
+use Rattle.record_layout.specs.declared.fields.Reading
 use Rattle.rules.specs.Tables.{State}
 use Rattle.rules.specs.Steps.{startStep, callStep, releaseStep, endStep, eventStep, readStep, recordStep}
 use Rattle.rules.proofs.Stores.{Sized}

@@ -5,10 +5,10 @@ use mathlib.Core.List.{List, [], _∷_}
 use lib.Dec.{eqb}
 use Rattle.answers.specs.Order.{pick}
 use Rattle.counters.specs.Sizes.{Size}
-use Rattle.layout.specs.Bytes.{wordBytes}
-use Rattle.layout.specs.Fields.{recordOf}
-use Rattle.layout.specs.declared.fields.Fields.{Fields}
-use Rattle.layout.specs.declared.fields.Fields
+use Rattle.record_layout.specs.Bytes.{wordBytes}
+use Rattle.record_layout.specs.Fields.{recordOf}
+use Rattle.record_layout.specs.declared.fields.Fields.{Fields}
+use Rattle.record_layout.specs.declared.fields.Fields
 use Rattle.objects.specs.Places.{noPair, givenOut, declaredWith, calledObject, calledPair, letGo, ended, restores, restored, spoiledPair}
 use Rattle.objects.specs.declared.Object.{Object}
 use Rattle.objects.specs.declared.Pair.{Pair}

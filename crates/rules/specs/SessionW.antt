@@ -3,8 +3,8 @@ use Prim.Native.Nat.{ℕ}
 use mathlib.Core.List.{List, [], _∷_, _++_}
 use lib.ListN.{drop, length, replicate, set}
 use Rattle.counters.specs.Sizes.{base}
-use Rattle.layout.specs.declared.fields.Fields.{Fields}
-use Rattle.layout.specs.declared.fields.Fields
+use Rattle.record_layout.specs.declared.fields.Fields.{Fields}
+use Rattle.record_layout.specs.declared.fields.Fields
 use Rattle.rules.specs.Tables.{State, objectAt, freshTables}
 use Rattle.rules.specs.Steps.{Outcome}
 use Rattle.rules.specs.Events.{Event, outcomeOf}

@@ -9,11 +9,11 @@ use Rattle.answers.specs.Order.{decide}
 use Rattle.answers.specs.declared.Refusal.{Refusal}
 use Rattle.answers.specs.declared.Refusal.the-variants.{BadRecord}
 use Rattle.counters.specs.Sizes.{Size}
-use Rattle.layout.specs.Reading.{reading, listing}
-use Rattle.layout.specs.declared.fields.Fields.{Fields}
-use Rattle.layout.specs.declared.fields.Fields
-use Rattle.layout.specs.declared.fields.Reading.{Reading}
-use Rattle.layout.specs.declared.fields.Reading
+use Rattle.record_layout.specs.Reading.{reading, listing}
+use Rattle.record_layout.specs.declared.fields.Fields.{Fields}
+use Rattle.record_layout.specs.declared.fields.Fields
+use Rattle.record_layout.specs.declared.fields.Reading.{Reading}
+use Rattle.record_layout.specs.declared.fields.Reading
 use Rattle.kinds.specs.Kinds.{acted}
 use Rattle.rules.specs.Tables.{State, objectAt, liveAt, pairAt}
 use Rattle.rules.specs.Refusing.{doomed, unmet, startRules, callRules, releaseRules, endRules}

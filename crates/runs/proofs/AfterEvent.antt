@@ -8,8 +8,8 @@ use lib.ListN.{take}
 use borrow.Author.Tests.{eqb-true, eqb-false}
 use Rattle.answers.proofs.Deciding.{passed}
 use Rattle.counters.specs.Sizes.{Size}
-use Rattle.layout.specs.declared.fields.Fields.{Fields}
-use Rattle.layout.specs.declared.fields.Fields
+use Rattle.record_layout.specs.declared.fields.Fields.{Fields}
+use Rattle.record_layout.specs.declared.fields.Fields
 use Rattle.kinds.specs.Kinds.{acted}
 use Rattle.rules.specs.Tables.{State, objectAt, liveAt, pairAt}
 use Rattle.rules.specs.Refusing.{doomed, callRules}

@@ -14,8 +14,8 @@ use Rattle.answers.specs.declared.Refusal.{Refusal}
 use Rattle.answers.specs.declared.Refusal.the-variants.{Wait}
 use Rattle.counters.specs.Sizes.{Size}
 use Rattle.counters.specs.Versions.{next}
-use Rattle.layout.specs.declared.fields.Fields.{Fields}
-use Rattle.layout.specs.declared.fields.Fields
+use Rattle.record_layout.specs.declared.fields.Fields.{Fields}
+use Rattle.record_layout.specs.declared.fields.Fields
 use Rattle.kinds.specs.Kinds.{acted}
 use Rattle.objects.specs.Places.{turnOf, saysWait}
 use Rattle.rules.specs.Tables.{State, objectAt, liveAt, pairAt}

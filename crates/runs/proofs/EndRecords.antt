@@ -10,20 +10,20 @@ use lib.Dec.{leb, eqb}
 use borrow.Author.Tests.{le-leb, lt-ltb, eq-eqb}
 use Rattle.counters.specs.Sizes.{Size}
 use Rattle.counters.specs.Versions.{turnover}
-use Rattle.layout.specs.Bytes.{halfBytes, wordBytes, wordOf}
-use Rattle.layout.specs.Beside.{endBeside}
-use Rattle.layout.specs.Entries.{Entry, entriesOf, risingFrom}
-use Rattle.layout.specs.Fields.{recordOf}
-use Rattle.layout.specs.Fitting.{Fit}
-use Rattle.layout.specs.Kinds.{shapeOf, bodyLimit}
-use Rattle.layout.specs.Writing.{readable}
-use Rattle.layout.specs.declared.kind.Kind.{Kind}
-use Rattle.layout.specs.declared.kind.Kind.the-variants.{Committed, RolledBack}
-use Rattle.layout.specs.declared.fields.Fields.{Fields}
-use Rattle.layout.proofs.LittleEndian.{word-again}
-use Rattle.layout.proofs.Lengths.{length-record, readable-beside}
-use Rattle.layout.proofs.ReadBack.{ReadsAs, written-reads-back}
-use Rattle.order.specs.CommonObject.{Lists}
+use Rattle.record_layout.specs.Bytes.{halfBytes, wordBytes, wordOf}
+use Rattle.record_layout.specs.Beside.{endBeside}
+use Rattle.record_layout.specs.Entries.{Entry, entriesOf, risingFrom}
+use Rattle.record_layout.specs.Fields.{recordOf}
+use Rattle.record_layout.specs.Fitting.{Fit}
+use Rattle.record_layout.specs.Kinds.{shapeOf, bodyLimit}
+use Rattle.record_layout.specs.Writing.{readable}
+use Rattle.record_layout.specs.declared.kind.Kind.{Kind}
+use Rattle.record_layout.specs.declared.kind.Kind.the-variants.{Committed, RolledBack}
+use Rattle.record_layout.specs.declared.fields.Fields.{Fields}
+use Rattle.record_layout.proofs.LittleEndian.{word-again}
+use Rattle.record_layout.proofs.Lengths.{length-record, readable-beside}
+use Rattle.record_layout.proofs.ReadBack.{ReadsAs, written-reads-back}
+use Rattle.record_order.specs.CommonObject.{Lists}
 use Rattle.rules.specs.Tables.{State, pairAt}
 use Rattle.rules.specs.Effects.{endEntries, endFields, endRecord}
 use Rattle.rules.specs.Steps.{Outcome, endStep}

@@ -6,7 +6,7 @@ use mathlib.Core.Path.{_≡_, refl, ap, _∙_}
 use native.Mathlib.Omega.{arith}
 use Rattle.counters.specs.Sizes.{Size}
 use Rattle.counters.specs.Versions.{turnover}
-use Rattle.order.specs.CameFirst.{ofEnd}
+use Rattle.record_order.specs.CameFirst.{ofEnd}
 use Rattle.rules.specs.Tables.{State, pairAt}
 use Rattle.rules.specs.Effects.{endFields, endRecord}
 use Rattle.rules.specs.Events.{names}

@@ -11,11 +11,11 @@ use lib.ListN.{length, length-append}
 use borrow.Author.Tests.{leb-true, le-leb, lt-ltb, eqb-true, eqb-false}
 use Rattle.answers.specs.Order.{pick}
 use Rattle.counters.specs.Versions.{turnover}
-use Rattle.layout.specs.Bytes.{wordBytes}
-use Rattle.layout.specs.Entries.{Entry, entriesOf, risingFrom}
-use Rattle.layout.proofs.LittleEndian.{word-back}
+use Rattle.record_layout.specs.Bytes.{wordBytes}
+use Rattle.record_layout.specs.Entries.{Entry, entriesOf, risingFrom}
+use Rattle.record_layout.proofs.LittleEndian.{word-back}
 use Rattle.objects.specs.declared.Pair.{Pair}
-use Rattle.order.specs.CommonObject.{Lists}
+use Rattle.record_order.specs.CommonObject.{Lists}
 use Rattle.rules.specs.Walks.{joinBelow}
 use Rattle.rules.specs.Effects.{entryOf}
 use Rattle.runs.specs.Statements.{declaredEntry}

@@ -9,12 +9,12 @@ use Rattle.counters.specs.Versions.{turnover}
 use Rattle.counters.specs.Comparing.{compared, swapped}
 use Rattle.counters.specs.declared.Comparison.the-variants.{A, B}
 use Rattle.counters.proofs.Compared.{first-unwrapped, compared-swapped}
-use Rattle.layout.specs.Entries.{entriesOf}
-use Rattle.layout.specs.Reading.{reading, listing}
-use Rattle.order.specs.CameFirst.{cameFirst, isEnd}
-use Rattle.order.specs.CommonObject.{Lists}
-use Rattle.order.specs.declared.CameFirst.the-variants.{Compared}
-use Rattle.order.proofs.Answers.{smallest-decides}
+use Rattle.record_layout.specs.Entries.{entriesOf}
+use Rattle.record_layout.specs.Reading.{reading, listing}
+use Rattle.record_order.specs.CameFirst.{cameFirst, isEnd}
+use Rattle.record_order.specs.CommonObject.{Lists}
+use Rattle.record_order.specs.declared.CameFirst.the-variants.{Compared}
+use Rattle.record_order.proofs.Answers.{smallest-decides}
 use Rattle.rules.specs.Events.{names}
 
 -- bytes that read as an end record, which lists exactly the objects of a start's list, with these versions wrapped to 32 bits

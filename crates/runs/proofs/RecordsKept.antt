@@ -6,9 +6,9 @@ use mathlib.Core.Path.{_≡_, sym, subst, _∙_}
 use native.Mathlib.Omega.{arith}
 use Rattle.counters.specs.Sizes.{Size}
 use Rattle.counters.specs.Versions.{turnover}
-use Rattle.layout.specs.Entries.{entriesOf}
-use Rattle.layout.specs.Reading.{listing}
-use Rattle.order.specs.CommonObject.{Lists}
+use Rattle.record_layout.specs.Entries.{entriesOf}
+use Rattle.record_layout.specs.Reading.{listing}
+use Rattle.record_order.specs.CommonObject.{Lists}
 use Rattle.runs.specs.Histories.{History, Transaction, isLive}
 use Rattle.runs.specs.Statements.{declarers}
 use Rattle.rules.proofs.Picking.{clash}

@@ -6,8 +6,8 @@ use lib.ListN.{take}
 use lib.Dec.{eqb}
 use Rattle.answers.specs.Numbers.{Reply}
 use Rattle.answers.specs.Order.{pick}
-use Rattle.layout.specs.declared.fields.Fields.{Fields}
-use Rattle.layout.specs.declared.fields.Fields
+use Rattle.record_layout.specs.declared.fields.Fields.{Fields}
+use Rattle.record_layout.specs.declared.fields.Fields
 use Rattle.rules.specs.Events.{Event}
 
 pub data Status : Type 0 where

@@ -13,18 +13,18 @@ use Rattle.counters.specs.Sizes.{Size}
 use Rattle.counters.specs.Versions.{turnover, difference, unwrappedTurn}
 use Rattle.counters.specs.declared.Turn.{Turn}
 use Rattle.counters.specs.declared.Comparison.the-variants.{A, B}
-use Rattle.layout.specs.Entries.{Entry, entriesOf}
-use Rattle.layout.specs.Kinds.{bodyLimit}
-use Rattle.layout.specs.Reading.{reading, listing}
-use Rattle.layout.specs.declared.fields.Fields.{Fields}
-use Rattle.layout.specs.declared.fields.Fields
-use Rattle.layout.specs.declared.fields.Reading.{Reading}
-use Rattle.layout.specs.declared.fields.Reading
+use Rattle.record_layout.specs.Entries.{Entry, entriesOf}
+use Rattle.record_layout.specs.Kinds.{bodyLimit}
+use Rattle.record_layout.specs.Reading.{reading, listing}
+use Rattle.record_layout.specs.declared.fields.Fields.{Fields}
+use Rattle.record_layout.specs.declared.fields.Fields
+use Rattle.record_layout.specs.declared.fields.Reading.{Reading}
+use Rattle.record_layout.specs.declared.fields.Reading
 use Rattle.objects.specs.Places.{noPair, saysReleased, saysWait}
 use Rattle.objects.specs.declared.Object.{Object}
 use Rattle.objects.specs.declared.Pair.{Pair}
-use Rattle.order.specs.CameFirst.{cameFirst}
-use Rattle.order.specs.declared.CameFirst.the-variants.{Compared}
+use Rattle.record_order.specs.CameFirst.{cameFirst}
+use Rattle.record_order.specs.declared.CameFirst.the-variants.{Compared}
 use Rattle.rules.specs.Tables.{State, objectAt, liveAt, pairAt}
 use Rattle.rules.specs.Walks.{joinBelow}
 use Rattle.rules.specs.Refusing.{doomed}

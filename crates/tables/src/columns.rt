@@ -21,7 +21,7 @@ pub fn doomed(marks: &[bool], size: Size, s: u32) -> bool
     let mut found = false;
     let mut o: u32 = 0;
     while o < size.objects as u32 {
-        found = verdicts::either(found, marks[(from + o) as usize]);
+        found = answers::either(found, marks[(from + o) as usize]);
         o = o + 1;
     }
     found

@@ -5,8 +5,8 @@ use native.Mathlib.Omega.{arith}
 use lib.ListN.{length, take, drop, length-take}
 use lib.Seq.{length-take-le}
 use Rattle.counters.specs.Sizes.{base}
-use Rattle.session.specs.Records.{Answering}
-use Rattle.session.proofs.Taking.{taken-inside, first-inside}
+use Rattle.bench_records.specs.Records.{Answering}
+use Rattle.bench_records.proofs.Taking.{taken-inside, first-inside}
 use borrow.Author.Needs.{needs}
 use Rattle.bench.proofs.main.Statement.{statement}
 use Rattle.bench.proofs.main.Tie as tie

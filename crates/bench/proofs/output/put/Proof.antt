@@ -5,9 +5,9 @@ use native.Mathlib.Omega.{arith}
 use lib.ListN.{length}
 use lib.Seq.{length-take-le}
 use Rattle.answers.specs.Numbers.{replyOf}
-use Rattle.lines.specs.Buffers.{Lent}
-use Rattle.lines.specs.Lines.{lineOf}
-use Rattle.lines.proofs.Making.{ends-within}
+use Rattle.bench_lines.specs.Buffers.{Lent}
+use Rattle.bench_lines.specs.Lines.{lineOf}
+use Rattle.bench_lines.proofs.Making.{ends-within}
 use borrow.Author.Needs.{needs}
 use Rattle.bench.proofs.output.put.Statement.{statement}
 use Rattle.bench.proofs.output.put.Tie as tie

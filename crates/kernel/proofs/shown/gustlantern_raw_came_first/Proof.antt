@@ -1,6 +1,6 @@
 -- `kernel::shown::gustlantern_raw_came_first` meets its promise.
 use mathlib.Core.Path.{ap, _∙_}
-use Rattle.order.specs.declared.CameFirst.{CameFirst}
+use Rattle.record_order.specs.declared.CameFirst.{CameFirst}
 use Rattle.kernel.specs.Shown.{orderOf}
 use borrow.Author.Needs.{needs}
 use Rattle.kernel.proofs.shown.gustlantern_raw_came_first.Statement.{statement}

@@ -1,7 +1,7 @@
 -- `pump::events::step` meets its promise.
 use mathlib.Core.Path.{sym, ap, _∙_}
 use Rattle.counters.specs.Sizes.{base}
-use Rattle.layout.specs.declared.fields.Fields.{Fields}
+use Rattle.record_layout.specs.declared.fields.Fields.{Fields}
 use Rattle.rules.specs.Steps.{Outcome, beside, eventStep}
 use Rattle.pump.specs.Held.{held}
 use borrow.Author.Needs.{needs}

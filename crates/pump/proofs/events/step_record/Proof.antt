@@ -3,10 +3,10 @@ use Prim.Native.Nat.{ℕ}
 use mathlib.Core.List.{List}
 use mathlib.Core.Path.{sym, ap, _∙_}
 use Rattle.counters.specs.Sizes.{base}
-use Rattle.layout.specs.Reading.{listing}
-use Rattle.layout.specs.declared.fields.Reading.{Reading}
-use Rattle.layout.specs.declared.fields.Reading
-use Rattle.reader.proofs.Refusing.{only-bad-record}
+use Rattle.record_layout.specs.Reading.{listing}
+use Rattle.record_layout.specs.declared.fields.Reading.{Reading}
+use Rattle.record_layout.specs.declared.fields.Reading
+use Rattle.record_read.proofs.Refusing.{only-bad-record}
 use Rattle.rules.specs.Steps.{Outcome, eventStep, readStep}
 use Rattle.pump.specs.Held.{held}
 use borrow.Author.Needs.{needs}

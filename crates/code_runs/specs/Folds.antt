@@ -1,0 +1,82 @@
+-- Folding the machine's steps over events, from its own fresh: each step goes in with the tables that the one before returned.
+use Prim.Native.Nat.{ℕ}
+use mathlib.Core.List.{List, [], _∷_, map}
+use Rattle.answers.specs.Numbers.{replyOf}
+use Rattle.counters.specs.Sizes.{Size, base}
+use Rattle.record_layout.specs.Reading.{reading, listing}
+use Rattle.record_layout.specs.declared.fields.Fields.{Fields}
+use Rattle.record_layout.specs.declared.fields.Reading.{Reading}
+use Rattle.rules.specs.Tables.{State}
+use Rattle.rules.specs.Steps.{Outcome}
+use Rattle.rules.specs.Events.{Event, outcomeOf}
+use Rattle.runs.specs.Histories.{History, noted}
+use Rattle.runs.specs.Runs.{Run}
+use Rattle.machine.specs.Views.{view, ended}
+use Rattle.machine.specs.declared.Tables.{Tables}
+use Rattle.machine.specs.declared.Stepped.{Stepped}
+use Rattle.events.specs.Promises.{FreshGives, StepGives, RecordGives}
+
+-- what a step gave back: the tables and the answer, and the buffer that it was lent, as it stands afterwards
+pub record Given : Type 0 where
+  pub stepped : Stepped
+  pub buffer : List ℕ
+
+-- each step meets its promise on the tables that it was handed, and hands on those that it returned
+abbrev pub Folded : Tables → List Event → List Given → Type 0
+Folded t [] [] = Unit {0}
+Folded t [] (given ∷ rest) = ⊥
+Folded t (event ∷ events) [] = ⊥
+Folded t (event ∷ events) (given ∷ rest) =
+    StepGives t (event .fields) (event .list) (event .buffer) (given .stepped) (given .buffer) × Folded (given .stepped .tables) events rest
+
+abbrev pub lastTables : Tables → List Given → Tables
+lastTables t [] = t
+lastTables t (given ∷ rest) = lastTables (given .stepped .tables) rest
+
+-- the tables, the reply and the buffer of each step, as the rules see them
+abbrev pub outcomesGiven : List Given → List Outcome
+outcomesGiven given = map (λ one. ended (one .stepped) (one .buffer)) given
+
+-- the outcomes of the rules' steps, one after the other
+abbrev pub outcomesFrom : Size → State → List Event → List Outcome
+outcomesFrom z t [] = []
+outcomesFrom z t (event ∷ events) = outcomeOf z t event ∷ outcomesFrom z (outcomeOf z t event .tables) events
+
+-- the history, made only from the events and what the code gave back
+abbrev pub notedFrom : History → List Event → List Given → History
+notedFrom history [] given = history
+notedFrom history (event ∷ events) [] = history
+notedFrom history (event ∷ events) (given ∷ rest) =
+    notedFrom (noted event (replyOf (given .stepped .answer)) (given .buffer) history) events rest
+
+-- the code has run over these events: the fresh tables that it returned, and what each of its steps gave back
+pub record CodeRuns (words : List ℕ) (first : ℕ) (events : List Event) : Type 0 where
+  pub fresh : Tables
+  pub given : List Given
+  pub begins : FreshGives first words fresh
+  pub steps : Folded fresh events given
+
+-- the tables and the history that it leaves
+abbrev pub codeRun : {words : List ℕ} {first : ℕ} {events : List Event} → CodeRuns words first events → Run
+codeRun {events = events} code = record { tables = view (lastTables (code .fresh) (code .given)); history = notedFrom [] events (code .given) }
+
+-- an event as bytes: those of a record, and the buffer that it is lent
+pub record Handed : Type 0 where
+  pub bytes : List ℕ
+  pub buffer : List ℕ
+
+-- the event that is read; bytes that are no record are refused as a fresh record is, which is no event
+abbrev pub eventRead : Reading → List ℕ → List ℕ → Event
+eventRead (Reading.Fields fields) list buffer = record { fields = fields; list = list; buffer = buffer }
+eventRead (Reading.Refused refusal) list buffer = record { fields = Fields.Fresh (record { 0 = 0 }); list = list; buffer = buffer }
+
+abbrev pub eventHanded : Handed → Event
+eventHanded handed = eventRead (reading base (handed .bytes)) (listing base (handed .bytes)) (handed .buffer)
+
+-- the same fold by `step_record`
+abbrev pub FoldedRecords : Tables → List Handed → List Given → Type 0
+FoldedRecords t [] [] = Unit {0}
+FoldedRecords t [] (given ∷ rest) = ⊥
+FoldedRecords t (handed ∷ records) [] = ⊥
+FoldedRecords t (handed ∷ records) (given ∷ rest) =
+    RecordGives t (handed .bytes) (handed .buffer) (given .stepped) (given .buffer) × FoldedRecords (given .stepped .tables) records rest

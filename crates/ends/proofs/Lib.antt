@@ -1,3 +1,0 @@
-pub mod Spoils
-pub mod EndClears
-pub mod EndTurns

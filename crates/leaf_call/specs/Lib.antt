@@ -1,0 +1,2 @@
+pub mod SharedRules
+pub mod Calls

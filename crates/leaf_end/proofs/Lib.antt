@@ -1,0 +1,4 @@
+pub mod Seeing
+pub mod Spoils
+pub mod EndClears
+pub mod EndTurns

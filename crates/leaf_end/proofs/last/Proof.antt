@@ -1,0 +1,15 @@
+-- `leaf_end::last` meets its promise.
+use Rattle.leaf_end.proofs.last.Statement.{statement}
+use Rattle.leaf_end.proofs.last.Tie as tie
+
+returns : tie.Need-returns
+returns c = simp (c .if1 .taken)
+
+returns-2 : tie.Need-returns-2
+returns-2 c = simp (c .before .if1 .left, c .if2 .taken)
+
+returns-3 : tie.Need-returns-3
+returns-3 c = simp (c .before .if1 .left, c .if2 .left)
+
+pub last-spec : {M : Type 1} → statement M
+last-spec = tie.close (tie.spec returns returns-2 returns-3)

@@ -1,0 +1,51 @@
+// What the rules of a start say of its slot and its list.
+ghost use mathlib.Core.Path.{_≡_};
+ghost use Rattle.answers.specs.Order.{decide};
+ghost use Rattle.rules.specs.Refusing.{startRules, pairRules};
+ghost use Rattle.answers.specs.declared.Verdict.the-variants.{Passes, Refuses};
+use answers::Refusal;
+use answers::Verdict;
+use counters::Size;
+use counters::SlotNo;
+
+// 'Its pairs from the first: object too large (2), not above the one before (3).'
+fn pairs(size: Size, list: &[u8]) -> Verdict
+    ensures { λ r. ⌜ r ≡ decide (pairRules size 0 (now (list .entry))) Refuses Passes ⌝ }
+{
+    let mut least: u8 = 0;
+    let mut at: usize = 0;
+    while 1 < list.len() - at {
+        let object = list[at];
+        if size.objects <= object {
+            return Verdict::Refuses(Refusal::BadObject);
+        }
+        if object < least {
+            return Verdict::Refuses(Refusal::BadList);
+        }
+        least = object + 1;
+        at = at + 2;
+    }
+    Verdict::Passes
+}
+
+// Start: 1, 4, then the list's length (3), then its pairs.
+pub fn verdict(size: Size, slot: SlotNo, live: bool, list: &[u8]) -> Verdict
+    ensures { λ r. ⌜ r ≡ decide (startRules size (slot .0) live (now (list .entry))) Refuses Passes ⌝ }
+{
+    if size.slots <= slot.0 {
+        return Verdict::Refuses(Refusal::BadSlot);
+    }
+    if live {
+        return Verdict::Refuses(Refusal::Busy);
+    }
+    if list.len() == 0 {
+        return Verdict::Refuses(Refusal::BadList);
+    }
+    if list.len() % 2 == 1 {
+        return Verdict::Refuses(Refusal::BadList);
+    }
+    if 2 * (size.objects as usize) < list.len() {
+        return Verdict::Refuses(Refusal::BadList);
+    }
+    pairs(size, list)
+}

@@ -1,0 +1,42 @@
+-- Whether fields and a list make a readable record, test by test.
+use Prim.Native.Nat.{ℕ, _+_, _*_, _≤_, _<_}
+use mathlib.Core.Bool.{false}
+use mathlib.Core.List.{List}
+use mathlib.Core.Path.{_≡_, _∙_}
+use native.Mathlib.Omega.{arith}
+use lib.ListN.{length}
+use borrow.Author.Tests.{le-leb, lt-leb, eq-eqb, ne-eqb}
+use Rattle.counters.specs.Sizes.{base}
+use Rattle.record_layout.specs.Kinds.{shapeOf, bodyLimit}
+use Rattle.record_layout.specs.Fields.{kindOfFields}
+use Rattle.record_layout.specs.Beside.{itemsBeside, contentBeside}
+use Rattle.record_layout.specs.Writing.{readable}
+use Rattle.record_layout.specs.declared.fields.Fields.{Fields}
+use Rattle.record_layout.specs.declared.fields.Fields
+use Rattle.record_layout.proofs.Lengths.{readable-beside}
+
+abbrev head : Fields → ℕ
+head f = shapeOf (kindOfFields f) .head
+
+abbrev wanted : Fields → List ℕ → ℕ
+wanted f list = shapeOf (kindOfFields f) .item * itemsBeside base f (length list)
+
+pub too-long : (f : Fields) (list : List ℕ) → bodyLimit base < head f + length list → readable base f list ≡ false
+too-long f list h = readable-beside base f list ∙ simp (lt-leb _ _ h)
+
+pub wrong-length : (f : Fields) (list : List ℕ) → head f + length list ≤ bodyLimit base → (length list ≡ wanted f list → ⊥) → readable base f list ≡ false
+wrong-length f list h n = readable-beside base f list ∙ simp (le-leb _ _ h, ne-eqb _ _ n)
+
+pub by-content : (f : Fields) (list : List ℕ) → head f + length list ≤ bodyLimit base → length list ≡ wanted f list → readable base f list ≡ contentBeside base f list
+by-content f list h e = readable-beside base f list ∙ simp (le-leb _ _ h, eq-eqb _ _ e)
+
+-- items of a list within the limit are few
+pub few-items : (f : Fields) (bytes : ℕ) → bytes ≤ 126 → itemsBeside base f bytes ≤ 126
+few-items (Fields.Fresh first) bytes h = omega arith
+few-items (Fields.Start slot) bytes h = omega arith
+few-items (Fields.Call slot object kind argument) bytes h = omega arith
+few-items (Fields.Release slot object) bytes h = omega arith
+few-items (Fields.Commit slot tick) bytes h = omega arith
+few-items (Fields.Rollback slot tick) bytes h = omega arith
+few-items (Fields.Committed tick slot) bytes h = omega arith
+few-items (Fields.RolledBack tick slot) bytes h = omega arith

@@ -1,0 +1,34 @@
+// What stands in front of a record's list: the frame and the head of the body.
+ghost use Prim.Native.Nat.{_≤_};
+ghost use mathlib.Core.Path.{_≡_};
+ghost use Rattle.record_layout.specs.Fields.{frontOf};
+ghost use Rattle.record_front.specs.Filled.{filled};
+
+mod fours;
+mod heads;
+
+use record_layout::fields::Fields;
+
+// The front for a list of so many bytes, as many as a count of pairs can tell, and zeros behind it: a frame has 4 bytes and the
+// longest head 8.
+pub fn front(fields: Fields, bytes: u16) -> [u8; 12]
+    requires { ⌜ bytes ≤ 510 ⌝ }
+    ensures { λ r. ⌜ r ≡ filled 12 (frontOf fields bytes) ⌝ }
+{
+    let frame = fours::frame(fields, bytes);
+    match fields {
+        Fields::Fresh { first } => heads::fresh(frame, first),
+        Fields::Start { slot } => heads::two(frame, slot.0, (bytes / 2) as u8),
+        Fields::Call {
+            slot,
+            object,
+            kind,
+            argument,
+        } => heads::call(frame, slot, object, kind, argument),
+        Fields::Release { slot, object } => heads::two(frame, slot.0, object.0),
+        Fields::Commit { slot, tick } => heads::end(frame, slot, tick),
+        Fields::Rollback { slot, tick } => heads::end(frame, slot, tick),
+        Fields::Committed { tick, slot } => heads::ended(frame, tick, slot, (bytes / 5) as u8),
+        Fields::RolledBack { tick, slot } => heads::ended(frame, tick, slot, (bytes / 5) as u8),
+    }
+}

@@ -1,0 +1,60 @@
+-- 'Which came first. Given two end records A and B, take the smallest object that both list, found by a walk of one list inside a walk
+-- of the other, left at the first hit.'
+use Prim.Native.Nat.{ℕ}
+use mathlib.Core.Bool.{Bool, true, false, not}
+use mathlib.Core.List.{List, [], _∷_}
+use lib.Dec.{eqb}
+use Rattle.answers.specs.Order.{pick, Rule, decide, _when_}
+use Rattle.answers.specs.declared.Refusal.the-variants.{BadRecord}
+use Rattle.counters.specs.Sizes.{Size}
+use Rattle.counters.specs.Comparing.{compared, swapped}
+use Rattle.record_layout.specs.Entries.{Entry, entriesOf}
+use Rattle.record_layout.specs.Reading.{reading, listing}
+use Rattle.record_layout.specs.declared.fields.Fields.{Fields}
+use Rattle.record_layout.specs.declared.fields.Fields
+use Rattle.record_layout.specs.declared.fields.Reading.{Reading}
+use Rattle.record_layout.specs.declared.fields.Reading
+use Rattle.record_order.specs.declared.CameFirst.{CameFirst}
+use Rattle.record_order.specs.declared.CameFirst.the-variants.{Compared, Unrelated, Refused}
+
+-- the walk of B's list for an entry of A's: the comparison at the first entry with its object, else what is given
+abbrev pub meet : Entry → List Entry → CameFirst → CameFirst
+meet e [] otherwise = otherwise
+meet e (f ∷ fs) otherwise = pick (eqb (e .object) (f .object)) (Compared (compared (e .version) (f .version))) (meet e fs otherwise)
+
+-- the walk of A's list. 'No common object: Unrelated.'
+abbrev pub meetingOf : List Entry → List Entry → CameFirst
+meetingOf [] fs = Unrelated
+meetingOf (e ∷ es) fs = meet e fs (meetingOf es fs)
+
+-- committed or rolled back
+abbrev pub ofEnd : Fields → Bool
+ofEnd (Fields.Fresh first) = false
+ofEnd (Fields.Start slot) = false
+ofEnd (Fields.Call slot object kind argument) = false
+ofEnd (Fields.Release slot object) = false
+ofEnd (Fields.Commit slot tick) = false
+ofEnd (Fields.Rollback slot tick) = false
+ofEnd (Fields.Committed tick slot) = true
+ofEnd (Fields.RolledBack tick slot) = true
+
+abbrev pub isEnd : Reading → Bool
+isEnd (Reading.Fields fields) = ofEnd fields
+isEnd (Reading.Refused refusal) = false
+
+-- 'Bytes that don't read as an end record give BadRecord, A's before B's.'
+abbrev pub orderRules : Bool → Bool → List Rule
+orderRules a-is-end b-is-end =
+    BadRecord when not a-is-end
+    ∷ BadRecord when not b-is-end
+    ∷ []
+
+abbrev pub cameFirst : Size → List ℕ → List ℕ → CameFirst
+cameFirst z a b =
+    decide (orderRules (isEnd (reading z a)) (isEnd (reading z b))) Refused (meetingOf (entriesOf (listing z a)) (entriesOf (listing z b)))
+
+-- the same answer with A and B changed over
+abbrev pub swappedOver : CameFirst → CameFirst
+swappedOver (Compared comparison) = Compared (swapped comparison)
+swappedOver Unrelated = Unrelated
+swappedOver (Refused refusal) = Refused refusal

@@ -1,0 +1,119 @@
+// Commit and rollback in place: look at every object, decide, write the record, and give every object its turn.
+ghost use Prim.Native.Nat.{_*_, _≤_, _<_};
+ghost use mathlib.Core.Path.{_≡_};
+ghost use Rattle.leaf_end.specs.Ends.{endCleared};
+ghost use Rattle.rules.specs.Steps.{endStep};
+ghost use Rattle.rules.specs.Walks.{eachBelow};
+ghost use Rattle.leaf_end.specs.Sights.{sightOf};
+ghost use Rattle.tables.specs.Places.{Fits};
+ghost use Rattle.tables.specs.Views.{view, Become, Ends};
+
+mod writing;
+
+use answers::Answer;
+use answers::Verdict;
+use counters::Size;
+use counters::SlotNo;
+use leaf_end::Sight;
+use objects::Pair;
+use tables::columns;
+use tables::places;
+
+pub fn end(
+    words: &mut [u32],
+    bytes: &mut [u8],
+    marks: &mut [bool],
+    size: Size,
+    slot: SlotNo,
+    tick: u32,
+    rollback: bool,
+    buf: &mut [u8],
+) -> Answer
+    requires { ⌜ Fits size (now words) (now bytes) (now marks) × (0 < size .slots) × (size .objects ≤ 102) ⌝ }
+    ensures { λ r. ⌜ Ends size (now (words .exit)) (now (bytes .exit)) (now (marks .exit)) r (now (buf .exit)) (endStep size rollback (view size (now (words .entry)) (now (bytes .entry)) (now (marks .entry))) (slot .0) tick (now (buf .entry))) ⌝ }
+{
+    let s = places::seat(slot.0, size.slots);
+    let live = tables::live_at(marks, size, s);
+    let sight = look(words, bytes, marks, size, s);
+    let short = buf.len() < 10 + sight.bytes as usize;
+    match leaf_end::verdict(size, slot, rollback, live, sight, short) {
+        Verdict::Refuses(refusal) => Answer::Refused(refusal),
+        Verdict::Passes => {
+            writing::record(
+                words,
+                bytes,
+                marks,
+                size,
+                s,
+                rollback,
+                tick,
+                slot,
+                sight.bytes,
+                buf,
+            );
+            settle(words, bytes, marks, size, s, rollback);
+            tables::store_live(marks, size, s, false);
+            Answer::Accepted(10 + sight.bytes as u32)
+        }
+    }
+}
+
+// What the end sees of its slot's objects.
+fn look(words: &[u32], bytes: &[u8], marks: &[bool], size: Size, s: u32) -> Sight
+    requires { ⌜ Fits size (now words) (now bytes) (now marks) × (s < size .slots) ⌝ }
+    ensures { λ r. ⌜ (r ≡ sightOf size (view size (now (words .entry)) (now (bytes .entry)) (now (marks .entry))) s) × (r .bytes ≤ 5 * size .objects) ⌝ }
+{
+    let mut sight = Sight::none();
+    let mut o: u32 = 0;
+    while o < size.objects as u32 {
+        let pair = tables::pair_at(words, bytes, marks, size, s, o);
+        sight = sight.look(pair, tables::object_at(words, size, o));
+        o = o + 1;
+    }
+    sight
+}
+
+// Each object has its turn.
+fn settle(
+    words: &mut [u32],
+    bytes: &mut [u8],
+    marks: &mut [bool],
+    size: Size,
+    s: u32,
+    rollback: bool,
+)
+    requires { ⌜ Fits size (now words) (now bytes) (now marks) × (s < size .slots) ⌝ }
+    ensures { λ _. ⌜ Become size (now (words .entry)) (now (bytes .entry)) (now (marks .entry)) (now (words .exit)) (now (bytes .exit)) (now (marks .exit)) (eachBelow (size .objects) (λ o t. endCleared size rollback s o t)) ⌝ }
+{
+    let mut o: u32 = 0;
+    while o < size.objects as u32 {
+        settle_one(words, bytes, marks, size, s, o, rollback);
+        o = o + 1;
+    }
+}
+
+// The turn of one object. The slot is cleared turn by turn, since no later turn reads this pair; so the slot that ends
+// may be spoiled with the others that have called the object.
+fn settle_one(
+    words: &mut [u32],
+    bytes: &mut [u8],
+    marks: &mut [bool],
+    size: Size,
+    s: u32,
+    o: u32,
+    rollback: bool,
+)
+    requires { ⌜ Fits size (now words) (now bytes) (now marks) × (s < size .slots) × (o < size .objects) ⌝ }
+    ensures { λ _. ⌜ Become size (now (words .entry)) (now (bytes .entry)) (now (marks .entry)) (now (words .exit)) (now (bytes .exit)) (now (marks .exit)) (endCleared size rollback s o) ⌝ }
+{
+    let pair = tables::pair_at(words, bytes, marks, size, s, o);
+    let object = leaf_end::object(
+        size.slots,
+        rollback,
+        pair,
+        tables::object_at(words, size, o),
+    );
+    tables::store_object(words, size, o, object);
+    columns::spoil_callers(marks, size, o, leaf_end::spread(size.slots, rollback, pair));
+    tables::store_pair(words, bytes, marks, size, s, o, Pair::none());
+}
