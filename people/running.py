@@ -7,8 +7,8 @@ from typing import List
 
 ROOT = Path(__file__).resolve().parent.parent
 PROGRAM = "bench"
-PROVE = '. ./kit && prove "$1"'
-RUN = '. ./kit && $(program "$1")'
+PROVE = '. tools/kit && prove "$1"'
+RUN = '. tools/kit && $(program "$1")'
 
 
 class NotRun(Exception):
