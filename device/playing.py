@@ -11,6 +11,7 @@ from device.thumb.faults import Fault
 from device.thumb.running import Run, run
 from people.answers import ACCEPTED, BAD_RECORD
 from people.composing import compose
+from people.leaving import lines_with_ends
 from people.playing import Step, pair
 
 # A session's name, its records, and the lines that are expected of it.
@@ -21,10 +22,11 @@ FRESH = "gustlantern_raw_fresh"
 
 @dataclass(frozen=True)
 class Played:
-    """A session with its records, what came of it unless it stopped at a fault, and how that differs from what is expected."""
+    """A session with what is expected of it, what came of it unless it stopped at a fault, and how that differs."""
 
     name: str
     records: bytes
+    lines: List[str]
     run: Optional[Run]
     difference: str
 
@@ -49,17 +51,18 @@ def first_difference(written: str, expected: str) -> str:
 
 
 def play(player: Player, name: str, records: bytes, expected: str) -> Played:
-    """Plays a session in the interpreter, and in qemu where that is installed."""
-    program = player.program_of(records, name)
+    """Plays a session in the interpreter, and in qemu where that is installed, and compares lines and the bytes of ends."""
+    program, lines = player.program_of(records, name), expected.splitlines()
+    wanted = "\n".join(lines_with_ends(records, lines))
     try:
         ended = run(program, player.target.processor)
     except Fault as fault:
-        return Played(name, records, None, str(fault))
-    difference = first_difference(ended.text, expected)
+        return Played(name, records, lines, None, str(fault))
+    difference = first_difference(ended.text, wanted)
     if not difference and qemu.installed():
-        difference = first_difference(qemu.written(program, player.target), expected)
+        difference = first_difference(qemu.written(program, player.target), wanted)
         difference = difference and f"in {qemu.PROGRAM} {difference}"
-    return Played(name, records, ended, difference)
+    return Played(name, records, lines, ended, difference)
 
 
 def by_hand(session: Path) -> Session:
@@ -82,7 +85,7 @@ def kind_of(step: Step) -> str:
 
 def kinds_of_calls(played: Played) -> List[Tuple[str, Call]]:
     """Each call of the library in a session that went as expected, with the kind of its event and whether it was accepted."""
-    steps = iter(pair(played.records, played.run.text.splitlines()).steps)
+    steps = iter(pair(played.records, played.lines).steps)
     found = []
     for call in played.run.calls:
         if call.name == STEP:

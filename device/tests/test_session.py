@@ -12,11 +12,17 @@ FRESH = struct.pack("<HH25I", 100, 0x0100, FIRST, *WORDS)
 SUM = FIRST + sum(word * (place + 1) for place, word in enumerate(WORDS))
 EVENT = struct.pack("<HHBB", 2, 0x0103, 0, 5)
 REFUSED = struct.pack("<HHBI", 5, 0x0104, 9, 7)
+CHANGED = "a byte that is not its own was changed\n"
 BAD = struct.pack("<HHB", 1, 0x0777, 12)
 
 
 def line(event, number, left):
     return f"{event} {number} {SUM + left * 1000 + 130 & 0xFFFFFFFF}\n"
+
+
+def end(kind, number, value, written):
+    """A commit or a rollback as the stand-in takes it: what it answers, and how many bytes it writes."""
+    return struct.pack("<HHBBBBB", 5, kind, number, value, written, 0, 0)
 
 
 class Session(unittest.TestCase):
@@ -39,9 +45,17 @@ class Session(unittest.TestCase):
         self.plays(FRESH, "")
 
     def test_each_event_is_given_all_that_is_left(self):
-        self.plays(FRESH + EVENT + REFUSED + EVENT, line(1, 0, 21) + line(2, 9, 15) + line(3, 0, 6))
+        self.plays(FRESH + EVENT + REFUSED + EVENT, line(1, 0, 21) + "2 9 7\n" + line(3, 0, 6))
 
     def test_bad_record_is_the_last(self):
         self.plays(FRESH + EVENT + BAD + EVENT, line(1, 0, 17) + line(2, 12, 11))
         self.plays(FRESH + EVENT + EVENT[:-1], line(1, 0, 11) + "2 12 0\n")
         self.plays(FRESH + EVENT + b"\0", line(1, 0, 7) + "2 12 0\n")
+
+    def test_bytes_of_an_accepted_end_stand_behind_its_line(self):
+        self.plays(FRESH + end(0x0104, 0, 3, 3) + end(0x0105, 0, 1, 1), "1 0 3\nE0 E1 E2\n2 0 1\nE0\n")
+        self.plays(FRESH + end(0x0104, 0, 200, 130), "1 0 200\n" + " ".join(f"{(0xE0 + place) % 256:02X}" for place in range(130)) + "\n")
+
+    def test_other_bytes_that_an_event_changes_are_told(self):
+        self.plays(FRESH + end(0x0105, 0, 3, 4), "1 0 3\nE0 E1 E2\n" + CHANGED)
+        self.plays(FRESH + end(0x0104, 9, 0, 1), "1 9 0\n" + CHANGED)

@@ -3,10 +3,10 @@ import unittest
 from itertools import zip_longest
 
 from device.reference import random_session
-from library.tests.expecting import left_behind
 from library.tests.programs import play, players
 from people.checking import SESSIONS, names
 from people.composing import compose
+from people.leaving import left_behind
 
 RANDOM_SESSIONS = 300
 # NoRoom never comes up: a player's buffer has room for every end.

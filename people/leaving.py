@@ -1,6 +1,6 @@
 """What a session leaves behind, from its accepted events alone: the bytes of its ends, and at last its tables."""
 import struct
-from typing import Dict, Iterator, List
+from typing import Dict, Iterator, List, Tuple
 
 from people.answers import ACCEPTED
 from people.following import VERSIONS, Claim, Followed
@@ -61,14 +61,28 @@ def end_record(end: End, claims: List[Claim]) -> str:
     return (struct.pack("<HH", len(body), kind) + body).hex(" ").upper()
 
 
-def left_behind(records: bytes, lines: List[str]) -> List[str]:
-    """The ends and the tables in the words of the players; nothing where the session does not begin."""
+def ends_and_tables(records: bytes, lines: List[str]) -> Tuple[Dict[int, str], List[str]]:
+    """The bytes of each accepted end, by its event's number, and the tables at last; nothing where the session does not begin."""
     played = pair(records, lines)
     if lines and played.steps[0].number == 0:
-        return []
-    left, said = Left(played.first_version, list(read_record(records).words)), []
+        return {}, []
+    left, ends = Left(played.first_version, list(read_record(records).words)), {}
     for step in played.steps:
         if step.answer == ACCEPTED:
             claims = left.accept(step.content)
-            said += [end_record(step.content, claims)] if isinstance(step.content, End) else []
-    return said + list(left.tables())
+            if isinstance(step.content, End):
+                ends[step.number] = end_record(step.content, claims)
+    return ends, list(left.tables())
+
+
+def left_behind(records: bytes, lines: List[str]) -> List[str]:
+    """The ends and the tables in the words of the library's players."""
+    ends, tables = ends_and_tables(records, lines)
+    return [*ends.values(), *tables]
+
+
+def lines_with_ends(records: bytes, lines: List[str]) -> List[str]:
+    """The lines, and behind that of each accepted end the bytes of its record."""
+    ends, _ = ends_and_tables(records, lines)
+    numbers = [int(line.split()[0]) for line in lines]
+    return [said for number, line in zip(numbers, lines) for said in (line, ends.get(number)) if said]
