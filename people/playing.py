@@ -49,7 +49,7 @@ def pair(records: bytes, lines: List[str]) -> Played:
 
 
 def fits(step: Step) -> bool:
-    """Whether the answer is one of the paper's, and the only one where no event can be read."""
+    """Whether the answer is one of the table, and the only one where no event can be read."""
     if step.number == 0 or isinstance(step.content, (Fault, Fresh, EndRecord)):
         return step.answer == BAD_RECORD
     return step.answer == ACCEPTED or step.answer in REFUSALS

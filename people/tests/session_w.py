@@ -1,4 +1,4 @@
-"""Session W of document 01: its text, its records byte by byte from the layout, and its lines."""
+"""Session W, the worked example of the rules: its text, its records byte by byte from the layout, and its lines."""
 
 TEXT = """\
 fresh 4294967295 3=100

@@ -37,7 +37,7 @@ class Sessions(unittest.TestCase):
             self.assertTrue(draw(trace(played)))
             self.assertTrue(picture(trace(played)).endswith("</svg>\n"))
 
-    def test_session_w_is_the_paper_s(self):
+    def test_session_w_is_the_one_of_the_rules(self):
         text, lines = parts("w")
         self.assertEqual(compose(text), session_w.BYTES)
         self.assertEqual(lines, session_w.LINES)

@@ -1,4 +1,4 @@
-//! "The bench program."
+//! The bench program.
 
 use std::fmt;
 
@@ -6,24 +6,24 @@ use crate::answers::{number, value, Answer, Refusal};
 use crate::records::{examine, Event, Fault, Record, HEADER, LONGEST_BODY};
 use crate::tables::Tables;
 
-/// "Its buffer for ends has 130 bytes": the longest record.
+/// Its buffer for ends has 130 bytes: the longest record.
 pub const BUFFER: usize = HEADER + LONGEST_BODY;
 
 /// What a line is about.
 #[derive(Clone, Copy, Debug, PartialEq, Eq)]
 pub enum Subject<'input> {
-    /// "The first record must be fresh"; it "is not, or input is empty".
+    /// The first record must be fresh; it is not, or input is empty.
     NoFresh,
     Event(Event<'input>),
-    /// "A bad record"
+    /// A bad record
     Bad(Fault),
-    /// "an end record"
+    /// An end record
     End,
-    /// "a second fresh"
+    /// a second fresh
     SecondFresh,
 }
 
-/// "per event one line: the event's number from 1, the number from the table, the value"
+/// Per event one line: the event's number from 1, the number from the table, the value
 #[derive(Clone, Copy, Debug)]
 pub struct Line<'input> {
     pub event: u64,
@@ -49,7 +49,7 @@ pub struct Bench<'input> {
 }
 
 impl<'input> Bench<'input> {
-    /// Reads the first record, which "must be fresh and prints nothing".
+    /// Reads the first record, which must be fresh and prints nothing.
     pub fn new(input: &'input [u8]) -> Self {
         let mut bench = Bench {
             rest: input,
@@ -77,8 +77,8 @@ impl<'input> Bench<'input> {
         reading
     }
 
-    /// "A bad record, an end record or a second fresh prints its line with 12 and stops the
-    /// program."
+    /// A bad record, an end record or a second fresh prints its line with 12 and stops the
+    /// program.
     fn stop(&mut self, subject: Subject<'input>) -> Line<'input> {
         self.stopped = true;
         Line {

@@ -24,7 +24,7 @@ impl Maker {
         self.bytes[..HEADER + body.len()].to_vec()
     }
 
-    /// A record that "prints its line with 12 and stops the program".
+    /// A record that prints its line with 12 and stops the program.
     pub fn stopping_record(&mut self) -> Vec<u8> {
         let random = &mut self.random;
         match random.below(9) {
@@ -50,7 +50,7 @@ impl Maker {
     }
 }
 
-/// "unknown kind", also one whose body would suit a kind beside it.
+/// Unknown kind, also one whose body would suit a kind beside it.
 fn unknown_kind(random: &mut Random) -> Vec<u8> {
     let near = [0, 1, 0xFF, 0x0106, 0x01FF, 0x0200, 0x0203, 0x0301, 0x8101];
     let kind = match random.below(2) {
@@ -68,7 +68,7 @@ fn unknown_kind(random: &mut Random) -> Vec<u8> {
     framed(kind, &body)
 }
 
-/// "length wrong for kind and n": a good record's body with bytes more or less.
+/// Length wrong for kind and n: a good record's body with bytes more or less.
 fn other_length(random: &mut Random, good: &[u8]) -> Vec<u8> {
     let kind = u16::from_le_bytes([good[2], good[3]]);
     let mut body = good[HEADER..].to_vec();
@@ -94,7 +94,7 @@ fn other_n(random: &mut Random) -> Vec<u8> {
     framed(START, &body)
 }
 
-/// "length over 126", with all of the body there or not.
+/// Length over 126, with all of the body there or not.
 fn too_long(random: &mut Random) -> Vec<u8> {
     if random.chance(50) {
         return too_long_start(random);
@@ -117,7 +117,7 @@ fn too_long_start(random: &mut Random) -> Vec<u8> {
     framed(START, &body)
 }
 
-/// "the zero byte not zero"
+/// The zero byte not zero
 fn zero_byte(random: &mut Random) -> Vec<u8> {
     let mut body = [random.byte(0, 17), random.byte(0, 25), random.byte(0, 4), 0].to_vec();
     body[3] = match random.below(2) {
@@ -207,7 +207,7 @@ pub fn no_fresh(mut maker: Maker) -> Vec<u8> {
     record
 }
 
-/// "torn tails": the input cut at any byte.
+/// Torn tails: the input cut at any byte.
 pub fn torn(mut maker: Maker) -> Vec<u8> {
     let length = maker.random.between(0, maker.bytes.len());
     maker.bytes.truncate(length);

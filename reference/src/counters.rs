@@ -1,15 +1,15 @@
-//! "Slot numbers, object numbers, versions and call counts are kept apart: a version and a call
-//! count never meet in one sum." Each has a type of its own.
+//! Slot numbers, object numbers, versions and call counts are kept apart: a version and a call
+//! count never meet in one sum. Each has a type of its own.
 
 use crate::answers::Refusal;
 
-/// "16 transaction slots (0 to 15)"
+/// 16 transaction slots (0 to 15)
 pub const SLOTS: usize = 16;
 
-/// "24 objects (0 to 23)"
+/// 24 objects (0 to 23)
 pub const OBJECTS: usize = 24;
 
-/// The last difference that means Wait: "d from 2 to 16".
+/// The last difference that means Wait: d from 2 to 16.
 pub const LAST_WAIT: u32 = SLOTS as u32;
 
 /// The number of a slot there is.
@@ -17,7 +17,7 @@ pub const LAST_WAIT: u32 = SLOTS as u32;
 pub struct SlotNumber(u8);
 
 impl SlotNumber {
-    /// "BadSlot: slot 16 or more"
+    /// BadSlot: slot 16 or more
     pub fn new(number: u8) -> Result<Self, Refusal> {
         if usize::from(number) < SLOTS {
             Ok(SlotNumber(number))
@@ -47,7 +47,7 @@ impl SlotNumber {
 pub struct ObjectNumber(u8);
 
 impl ObjectNumber {
-    /// "BadObject: object 24 or more"
+    /// BadObject: object 24 or more
     pub fn new(number: u8) -> Result<Self, Refusal> {
         if usize::from(number) < OBJECTS {
             Ok(ObjectNumber(number))
@@ -72,7 +72,7 @@ impl ObjectNumber {
     }
 }
 
-/// "All versions are 32 bits and all sums and differences of versions are taken modulo 2^32."
+/// All versions are 32 bits and all sums and differences of versions are taken modulo 2^32.
 #[derive(Clone, Copy, Debug, Default, PartialEq, Eq)]
 pub struct Version(pub u32);
 
@@ -91,15 +91,15 @@ impl Version {
 /// What the difference d of private and local version says.
 #[derive(Clone, Copy, Debug, PartialEq, Eq)]
 pub enum Turn {
-    /// "d = 1: it is the transaction's turn."
+    /// d = 1: it is the transaction's turn.
     Now,
-    /// "d from 2 to 16: Wait."
+    /// d from 2 to 16: Wait.
     Wait,
-    /// "Any other d: Released."
+    /// Any other d: Released.
     Released,
 }
 
-/// "Let d be private version minus local version."
+/// Let d be private version minus local version.
 pub fn turn(private: Version, local: Version) -> Turn {
     match private.minus(local) {
         1 => Turn::Now,
@@ -108,12 +108,12 @@ pub fn turn(private: Version, local: Version) -> Turn {
     }
 }
 
-/// How many calls a pair counts; its supremum is a count too. 0 as a supremum "means no bound".
+/// How many calls a pair counts; its supremum is a count too. 0 as a supremum means no bound.
 #[derive(Clone, Copy, Debug, Default, PartialEq, Eq)]
 pub struct CallCount(pub u8);
 
 impl CallCount {
-    /// "the count rises by one (modulo 256)"
+    /// The count rises by one (modulo 256)
     pub fn next(self) -> CallCount {
         CallCount(self.0.wrapping_add(1))
     }

@@ -13,7 +13,7 @@ pub struct Habit {
     pub objects: Vec<u8>,
     /// The most pairs in a start's list.
     pub pairs: usize,
-    /// The suprema that starts choose from; 0 "means no bound".
+    /// The suprema that starts choose from; 0 means no bound.
     pub suprema: &'static [u8],
     /// How often start, call, release, commit and rollback are tried.
     pub weights: [usize; 5],

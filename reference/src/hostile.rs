@@ -45,7 +45,7 @@ impl Maker {
         }
     }
 
-    /// "slot 15 and 16"
+    /// Slot 15 and 16
     fn hostile_slot(&mut self) -> u8 {
         match self.random.weighted(&[45, 20, 10, 15, 10]) {
             0 => self.live_slot(),
@@ -56,7 +56,7 @@ impl Maker {
         }
     }
 
-    /// "object 23 and 24"
+    /// Object 23 and 24
     fn hostile_object(&mut self, slot: u8) -> u8 {
         match self.random.weighted(&[60, 15, 15, 10]) {
             0 => self.declared_object(slot),
@@ -66,7 +66,7 @@ impl Maker {
         }
     }
 
-    /// "kind 4 or more"
+    /// Kind 4 or more
     fn hostile_kind(&mut self) -> u8 {
         match self.random.weighted(&[60, 25, 15]) {
             0 => self.random.byte(0, 3),
@@ -98,7 +98,7 @@ impl Maker {
             .collect()
     }
 
-    /// "list of 48 bytes and of 50": too long, with or without other faults.
+    /// List of 48 bytes and of 50: too long, with or without other faults.
     fn long_list(&mut self) -> Vec<u8> {
         let pairs = match self.random.below(3) {
             0 => OBJECTS + 1,

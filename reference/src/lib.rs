@@ -1,7 +1,7 @@
-//! A reference implementation, in plain Rust and written from the paper alone, of what the paper
-//! builds: "a step machine over tables of 16 transaction slots (0 to 15) and 24 objects (0 to 23),
+//! A reference implementation, in plain Rust and written from the rules alone (docs/RULES.md has
+//! them): a step machine over tables of 16 transaction slots (0 to 15) and 24 objects (0 to 23),
 //! the records that carry its events and its ends, a question that orders two end records, and a
-//! bench program". It shares no code and no definition with the proved crates, so that a
+//! bench program. It shares no code and no definition with the proved crates, so that a
 //! difference between the two shows a misreading in one of them.
 //!
 //! The machine: [`counters`], [`answers`], [`tables`], [`machine`]. The records: [`records`]
@@ -11,16 +11,15 @@
 //!
 //! Commands, each built with `cargo build --release --offline`:
 //!
-//! - `bench` is the paper's bench program.
+//! - `bench` is the bench program.
 //! - `compare --sessions 3000 --seed 1 -- PROGRAM ARGUMENTS` feeds random sessions to PROGRAM and
 //!   to the bench here and compares what both print.
 //! - `speed` measures the machine's steps on a prepared session.
 //! - `planted-faults`, a script beside the manifest, builds copies of the bench with one wrong
 //!   rule each and shows that `compare` finds it.
 //!
-//! Where the paper leaves a choice that tables reached from fresh can show, the sentence is taken
-//! to the letter; on other tables (a live slot that declares nothing, a count past its supremum)
-//! as well.
+//! The rules are taken to the letter, on tables that no run from fresh reaches as well (a live slot
+//! that declares nothing, a count past its supremum).
 
 pub mod answers;
 pub mod bench;

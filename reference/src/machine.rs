@@ -1,6 +1,6 @@
-//! "Steps": start, call, release, commit and rollback, on tables changed in place. Every refusal
-//! is found before the first change, so that it leaves the tables as they came and "touches no
-//! byte of any buffer".
+//! Steps: start, call, release, commit and rollback, on tables changed in place. Every refusal
+//! is found before the first change, so that it leaves the tables as they came and touches no
+//! byte of any buffer.
 
 use crate::answers::{Answer, Refusal};
 use crate::counters::{turn, CallCount, ObjectNumber, SlotNumber, Turn, OBJECTS};
@@ -8,7 +8,7 @@ use crate::records::{EndKind, Entry, Event};
 use crate::tables::{Pair, Slot, Tables};
 use crate::writing::put_end;
 
-/// The longest start list: a pair of bytes for each object, "over 48 bytes" is too long.
+/// The longest start list: a pair of bytes for each object, over 48 bytes is too long.
 pub const LONGEST_LIST: usize = 2 * OBJECTS;
 
 /// What a call does: the table of kinds.
@@ -21,7 +21,7 @@ enum Act {
 }
 
 impl Act {
-    /// "BadCall: kind 4 or more"
+    /// BadCall: kind 4 or more
     fn new(kind: u8) -> Result<Act, Refusal> {
         match kind {
             0 => Ok(Act::Read),
@@ -70,11 +70,11 @@ impl Tables {
         }
     }
 
-    /// "Start: 1, 4, then the list's length (3), then its pairs."
+    /// Start: 1, 4, then the list's length (3), then its pairs.
     ///
-    /// "For each listed object the global version rises by one and becomes the private version;
+    /// For each listed object the global version rises by one and becomes the private version;
     /// the pair is declared with count 0, not called, not spoiled. The slot becomes live and all
-    /// its other entries zero."
+    /// its other entries zero.
     pub fn start(&mut self, slot: u8, list: &[u8]) -> Answer {
         let slot = SlotNumber::new(slot)?;
         if self.slot(slot).live {
@@ -99,11 +99,11 @@ impl Tables {
         Ok(0)
     }
 
-    /// "Call: 1, 5, 2, 6, 7, 9, 8, 10."
+    /// Call: 1, 5, 2, 6, 7, 9, 8, 10.
     ///
-    /// "On the first call the word is saved and the pair is called. The kind then acts. Unless the
+    /// On the first call the word is saved and the pair is called. The kind then acts. Unless the
     /// supremum is 0 the count rises by one (modulo 256); if it then equals the supremum, the
-    /// local version becomes the private version."
+    /// local version becomes the private version.
     pub fn call(&mut self, slot: u8, object: u8, kind: u8, argument: u32) -> Answer {
         let slot = self.live_slot(slot)?;
         let object = self.declared_object(slot, object)?;
@@ -127,8 +127,8 @@ impl Tables {
         Ok(value)
     }
 
-    /// "Release: 1, 5, 2, 6, 8, 10." "The local version becomes the private version. A doomed
-    /// transaction may do this too."
+    /// Release: 1, 5, 2, 6, 8, 10. The local version becomes the private version. A doomed
+    /// transaction may do this too.
     pub fn release(&mut self, slot: u8, object: u8) -> Answer {
         let slot = self.live_slot(slot)?;
         let object = self.declared_object(slot, object)?;
@@ -137,7 +137,7 @@ impl Tables {
         Ok(0)
     }
 
-    /// "Commit: 1, 5, 9, 10, 11."
+    /// Commit: 1, 5, 9, 10, 11.
     pub fn commit(&mut self, slot: u8, tick: u32, buffer: &mut [u8]) -> Answer {
         let slot = self.live_slot(slot)?;
         self.need_not_doomed(slot)?;
@@ -147,7 +147,7 @@ impl Tables {
         Ok(written)
     }
 
-    /// "Rollback: 1, 5, 10, 11." "The same need and the same versions. Before that" the words are
+    /// Rollback: 1, 5, 10, 11. The same need and the same versions. Before that the words are
     /// restored.
     pub fn rollback(&mut self, slot: u8, tick: u32, buffer: &mut [u8]) -> Answer {
         let slot = self.live_slot(slot)?;
@@ -201,7 +201,7 @@ impl Tables {
         }
     }
 
-    /// Refusal 10 of commit and rollback: "Needs terminal + 1 = private on every declared object."
+    /// Refusal 10 of commit and rollback: it needs terminal + 1 = private on every declared object.
     fn need_terminal(&self, slot: SlotNumber) -> Result<(), Refusal> {
         let met = |object| self.object(object).terminal.next() == self.pair(slot, object).private;
         if self.declared(slot).all(met) {
@@ -211,12 +211,12 @@ impl Tables {
         }
     }
 
-    /// "The local version becomes the private version."
+    /// The local version becomes the private version.
     fn let_go(&mut self, slot: SlotNumber, object: ObjectNumber) {
         self.object_mut(object).local = self.pair(slot, object).private;
     }
 
-    /// "The end record is written"; "End records list all declared objects, rising." Refusal 11.
+    /// The end record is written; end records list all declared objects, rising. Refusal 11.
     fn write_end(&self, kind: EndKind, slot: SlotNumber, tick: u32, buffer: &mut [u8]) -> Answer {
         let mut entries = [Entry::default(); OBJECTS];
         let mut length = 0;
@@ -230,8 +230,8 @@ impl Tables {
         put_end(kind, tick, slot.number(), &entries[..length], buffer)
     }
 
-    /// "for each declared object that was called and is not spoiled, the word becomes the saved
-    /// word, and every other live slot that has called this object becomes spoiled on it."
+    /// For each declared object that was called and is not spoiled, the word becomes the saved
+    /// word, and every other live slot that has called this object becomes spoiled on it.
     fn restore(&mut self, slot: SlotNumber) {
         for object in ObjectNumber::all() {
             let pair = *self.pair(slot, object);
@@ -242,7 +242,7 @@ impl Tables {
         }
     }
 
-    /// "every other live slot that has called this object becomes spoiled on it"
+    /// Every other live slot that has called this object becomes spoiled on it
     fn spoil_other_callers(&mut self, slot: SlotNumber, object: ObjectNumber) {
         for other in SlotNumber::all() {
             if other != slot && self.slot(other).live && self.pair(other, object).called {
@@ -251,8 +251,8 @@ impl Tables {
         }
     }
 
-    /// "Each declared object whose d is not "Released" gets local = private; every declared object
-    /// gets terminal = private. The end record is written and the slot cleared."
+    /// Each declared object whose d is not Released gets local = private; every declared object
+    /// gets terminal = private. The end record is written and the slot cleared.
     fn end(&mut self, slot: SlotNumber) {
         for object in ObjectNumber::all() {
             let pair = *self.pair(slot, object);
@@ -267,8 +267,8 @@ impl Tables {
     }
 }
 
-/// "the list's length (3), then its pairs from the first: object too large (2), not above the one
-/// before (3)"
+/// The list's length (3), then its pairs from the first: object too large (2), not above the one
+/// before (3)
 fn check_list(list: &[u8]) -> Result<(), Refusal> {
     if list.is_empty() || list.len() % 2 == 1 || list.len() > LONGEST_LIST {
         return Err(Refusal::BadList);

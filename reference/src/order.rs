@@ -1,10 +1,10 @@
-//! "Which came first."
+//! Which came first.
 
 use crate::answers::Refusal;
 use crate::counters::Version;
 use crate::records::{read, End, Entry, Record};
 
-/// The paper's replies; they have names and no numbers.
+/// The answers; they have names and no numbers.
 #[derive(Clone, Copy, Debug, PartialEq, Eq)]
 pub enum CameFirst {
     A,
@@ -14,11 +14,11 @@ pub enum CameFirst {
     Unrelated,
 }
 
-/// Half of the versions: "e = 2147483648: Far".
+/// Half of the versions: e = 2147483648: Far.
 const FAR: u32 = 1 << 31;
 
-/// "Given two end records A and B, take the smallest object that both list." "Bytes that don't
-/// read as an end record give BadRecord, A's before B's."
+/// Given two end records A and B, take the smallest object that both list. Bytes that don't
+/// read as an end record give BadRecord, A's before B's.
 pub fn which_came_first(a: &[u8], b: &[u8]) -> Result<CameFirst, Refusal> {
     let a = read_end(a)?;
     let b = read_end(b)?;
@@ -36,8 +36,8 @@ fn read_end(bytes: &[u8]) -> Result<End, Refusal> {
     }
 }
 
-/// Both versions at "the smallest object that both list, found by a walk of one list inside a walk
-/// of the other, left at the first hit". Both lists rise, so the first hit is the smallest.
+/// Both versions at the smallest object that both list, found by a walk of one list inside a walk
+/// of the other, left at the first hit. Both lists rise, so the first hit is the smallest.
 fn common(a: &[Entry], b: &[Entry]) -> Option<(Version, Version)> {
     for outer in a {
         for inner in b {
@@ -49,8 +49,8 @@ fn common(a: &[Entry], b: &[Entry]) -> Option<(Version, Version)> {
     None
 }
 
-/// "Let e be B's version minus A's. e = 0: Same. e from 1 to 2147483647: A. e = 2147483648: Far.
-/// Above: B."
+/// Let e be B's version minus A's. e = 0: Same. e from 1 to 2147483647: A. e = 2147483648: Far.
+/// Above: B.
 fn compare(a: Version, b: Version) -> CameFirst {
     match b.minus(a) {
         0 => CameFirst::Same,

@@ -1,12 +1,12 @@
-//! "Records": their kinds, their fields, and reading with its refusals in order.
+//! Records: their kinds, their fields, and reading with its refusals in order.
 
 use crate::answers::Refusal;
 use crate::counters::{ObjectNumber, SlotNumber, Version, OBJECTS};
 
-/// "length u16 (bytes of the body only), kind u16"
+/// Length u16 (bytes of the body only), kind u16
 pub const HEADER: usize = 4;
 
-/// "A body has at most 126 bytes."
+/// A body has at most 126 bytes.
 pub const LONGEST_BODY: usize = 126;
 
 pub const FRESH: u16 = 0x0100;
@@ -30,13 +30,13 @@ pub const KINDS: [u16; 8] = [
     ROLLED_BACK,
 ];
 
-/// An event by its fields. "Events' slots and objects are left to the steps", and so is a start's
+/// An event by its fields. Events' slots and objects are left to the steps, and so is a start's
 /// list.
 #[derive(Clone, Copy, Debug, PartialEq, Eq)]
 pub enum Event<'bytes> {
     Start {
         slot: u8,
-        /// "n pairs (object u8, supremum u8)"
+        /// n pairs (object u8, supremum u8)
         list: &'bytes [u8],
     },
     Call {
@@ -66,7 +66,7 @@ pub enum EndKind {
     RolledBack = ROLLED_BACK as isize,
 }
 
-/// "n entries (object u8, private version u32)"
+/// n entries (object u8, private version u32)
 #[derive(Clone, Copy, Debug, Default, PartialEq, Eq)]
 pub struct Entry {
     pub object: u8,
@@ -96,26 +96,26 @@ pub enum Record<'bytes> {
     End(End),
 }
 
-/// Why bytes are no record, "in this order". Each is refusal 12.
+/// Why bytes are no record, in this order. Each is refusal 12.
 #[derive(Clone, Copy, Debug, PartialEq, Eq)]
 pub enum Fault {
-    /// "under 4 bytes"
+    /// Under 4 bytes
     UnderFourBytes,
-    /// "length over 126"
+    /// Length over 126
     LengthOver,
-    /// "body not all there"
+    /// Body not all there
     BodyNotAllThere,
-    /// "unknown kind"
+    /// Unknown kind
     UnknownKind,
-    /// "length wrong for kind and n"
+    /// Length wrong for kind and n
     LengthWrong,
-    /// "content"
+    /// Content
     Content,
 }
 
-/// "A reading is either the fields or the refusal. The body of the first record is handed back as
+/// A reading is either the fields or the refusal. The body of the first record is handed back as
 /// that part of the caller's bytes; where the frame (the first three checks) fails, an empty part
-/// is. Bytes behind the record don't matter."
+/// is. Bytes behind the record don't matter.
 pub fn read(bytes: &[u8]) -> (Result<Record<'_>, Refusal>, &[u8]) {
     let (reading, body) = examine(bytes);
     (reading.map_err(|_| Refusal::BadRecord), body)
@@ -129,7 +129,7 @@ pub fn examine(bytes: &[u8]) -> (Result<Record<'_>, Fault>, &[u8]) {
     }
 }
 
-/// "the frame (the first three checks)": kind and body.
+/// The frame (the first three checks): kind and body.
 fn frame(bytes: &[u8]) -> Result<(u16, &[u8]), Fault> {
     let &[length_low, length_high, kind_low, kind_high, ref behind @ ..] = bytes else {
         return Err(Fault::UnderFourBytes);
@@ -144,7 +144,7 @@ fn frame(bytes: &[u8]) -> Result<(u16, &[u8]), Fault> {
     }
 }
 
-/// "unknown kind, length wrong for kind and n, content"
+/// Unknown kind, length wrong for kind and n, content
 fn fields(kind: u16, body: &[u8]) -> Result<Record<'_>, Fault> {
     match kind {
         FRESH => fresh(body),
@@ -163,7 +163,7 @@ fn fields(kind: u16, body: &[u8]) -> Result<Record<'_>, Fault> {
     }
 }
 
-/// "first version u32, 24 words u32 (100 bytes)"
+/// First version u32, 24 words u32 (100 bytes)
 fn fresh(body: &[u8]) -> Result<Record<'_>, Fault> {
     if body.len() != 4 + 4 * OBJECTS {
         return Err(Fault::LengthWrong);
@@ -176,7 +176,7 @@ fn fresh(body: &[u8]) -> Result<Record<'_>, Fault> {
     Ok(Record::Fresh { first, words })
 }
 
-/// "slot u8, n u8, n pairs (object u8, supremum u8)"
+/// Slot u8, n u8, n pairs (object u8, supremum u8)
 fn start(body: &[u8]) -> Result<Event<'_>, Fault> {
     match body {
         [slot, n, list @ ..] if list.len() == 2 * usize::from(*n) => {
@@ -186,8 +186,8 @@ fn start(body: &[u8]) -> Result<Event<'_>, Fault> {
     }
 }
 
-/// "slot u8, object u8, kind u8, zero u8, argument u32"; a content fault is "the zero byte not
-/// zero".
+/// Slot u8, object u8, kind u8, zero u8, argument u32; a content fault is the zero byte not
+/// zero.
 fn call(body: &[u8]) -> Result<Event<'_>, Fault> {
     let &[slot, object, kind, zero, ref argument @ ..] = body else {
         return Err(Fault::LengthWrong);
@@ -206,7 +206,7 @@ fn call(body: &[u8]) -> Result<Event<'_>, Fault> {
     })
 }
 
-/// "slot u8, object u8"
+/// Slot u8, object u8
 fn release(body: &[u8]) -> Result<Event<'_>, Fault> {
     match *body {
         [slot, object] => Ok(Event::Release { slot, object }),
@@ -214,7 +214,7 @@ fn release(body: &[u8]) -> Result<Event<'_>, Fault> {
     }
 }
 
-/// "slot u8, tick u32"
+/// Slot u8, tick u32
 fn slot_and_tick(body: &[u8]) -> Result<(u8, u32), Fault> {
     match body {
         [slot, tick @ ..] if tick.len() == 4 => Ok((*slot, number(tick))),
@@ -222,7 +222,7 @@ fn slot_and_tick(body: &[u8]) -> Result<(u8, u32), Fault> {
     }
 }
 
-/// "tick u32, slot u8, n u8, n entries (object u8, private version u32)"
+/// Tick u32, slot u8, n u8, n entries (object u8, private version u32)
 fn end(kind: EndKind, body: &[u8]) -> Result<End, Fault> {
     let [tick0, tick1, tick2, tick3, slot, n, list @ ..] = body else {
         return Err(Fault::LengthWrong);
@@ -246,8 +246,8 @@ fn end(kind: EndKind, body: &[u8]) -> Result<End, Fault> {
     })
 }
 
-/// Whether none of these is there: "in end records slot over 15, n = 0, object over 23, objects
-/// not rising".
+/// Whether none of these is there: in end records slot over 15, n = 0, object over 23, objects
+/// not rising.
 pub fn end_content(slot: u8, entries: &[Entry]) -> bool {
     SlotNumber::new(slot).is_ok()
         && !entries.is_empty()
@@ -257,7 +257,7 @@ pub fn end_content(slot: u8, entries: &[Entry]) -> bool {
         && entries.windows(2).all(|two| two[0].object < two[1].object)
 }
 
-/// "Little-endian"
+/// Little-endian
 fn number(bytes: &[u8]) -> u32 {
     bytes
         .iter()

@@ -38,7 +38,7 @@ pub const fn call(slot: u8, object: u8, kind: u8, argument: u32) -> Event<'stati
     }
 }
 
-/// "first version 4294967295, word 3 is 100, the others 0"
+/// First version 4294967295, word 3 is 100, the others 0
 pub fn session_w_fresh() -> (Version, [u32; OBJECTS]) {
     let mut words = [0; OBJECTS];
     words[3] = 100;
@@ -112,7 +112,7 @@ pub fn plausible(random: Random) -> Vec<u8> {
 }
 
 /// A session with one transaction whose calls on one object are as many as a count can tell apart
-/// and more: "Supremum 0 means no bound", and 255 is the highest bound.
+/// and more: supremum 0 means no bound, and 255 is the highest bound.
 pub fn lasting(mut random: Random) -> Vec<u8> {
     let habit = Habit::choose(&mut random);
     let mut maker = Maker::new(random, habit);

@@ -1,21 +1,21 @@
-//! "Tables": what the machine keeps per object, per slot, and per slot and object.
+//! Tables: what the machine keeps per object, per slot, and per slot and object.
 
 use crate::counters::{CallCount, ObjectNumber, SlotNumber, Version, OBJECTS, SLOTS};
 
-/// "Per object: a word (u32) and three versions."
+/// Per object: a word (u32) and three versions.
 #[derive(Clone, Copy, Debug, Default, PartialEq, Eq)]
 pub struct Object {
     pub word: u32,
-    /// "last given out"
+    /// Last given out
     pub global: Version,
-    /// "last let go"
+    /// Last let go
     pub local: Version,
-    /// "last ended"
+    /// Last ended
     pub terminal: Version,
 }
 
-/// "Per slot and object: declared, supremum (0 to 255), private version, call count, called,
-/// spoiled, saved word."
+/// Per slot and object: declared, supremum (0 to 255), private version, call count, called,
+/// spoiled, saved word.
 #[derive(Clone, Copy, Debug, Default, PartialEq, Eq)]
 pub struct Pair {
     pub declared: bool,
@@ -27,7 +27,7 @@ pub struct Pair {
     pub saved: u32,
 }
 
-/// "Per slot: live or not", and the slot's pairs. The default is not live with entries "all zero".
+/// Per slot: live or not, and the slot's pairs. The default is not live with entries all zero.
 #[derive(Clone, Copy, Debug, Default, PartialEq, Eq)]
 pub struct Slot {
     pub live: bool,
@@ -35,7 +35,7 @@ pub struct Slot {
 }
 
 impl Slot {
-    /// "A transaction is doomed if its slot is spoiled on any object, declared or not."
+    /// A transaction is doomed if its slot is spoiled on any object, declared or not.
     pub fn doomed(&self) -> bool {
         self.pairs.iter().any(|pair| pair.spoiled)
     }
@@ -49,8 +49,8 @@ pub struct Tables {
 }
 
 impl Tables {
-    /// "Fresh: given 24 words and a first version, all three versions of every object are that
-    /// version and no slot is live. Entries of a slot that is not live are all zero."
+    /// Fresh: given 24 words and a first version, all three versions of every object are that
+    /// version and no slot is live. Entries of a slot that is not live are all zero.
     pub fn fresh(first: Version, words: [u32; OBJECTS]) -> Tables {
         let object = |word| Object {
             word,

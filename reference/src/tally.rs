@@ -20,8 +20,8 @@ pub const ROWS: [&str; 9] = [
     "second fresh",
 ];
 
-/// Per row the numbers that the bench can print, from the paper's orders of refusal and from "A bad
-/// record, an end record or a second fresh prints its line with 12".
+/// Per row the numbers that the bench can print, from the orders of refusal; a bad record, an end
+/// record and a second fresh print their line with 12.
 pub const REACHABLE: [&[usize]; ROWS.len()] = [
     &[0, 1, 2, 3, 4],
     &[0, 1, 2, 5, 6, 7, 8, 9, 10],
@@ -34,7 +34,7 @@ pub const REACHABLE: [&[usize]; ROWS.len()] = [
     &[12],
 ];
 
-/// What the paper's orders name and the bench cannot print, with the reason.
+/// What the orders of refusal name and the bench cannot print, with the reason.
 pub const UNREACHABLE: [(&str, usize, &str); 3] = [
     (
         "start",

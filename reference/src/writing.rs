@@ -1,6 +1,6 @@
-//! "Every kind can also be written from its fields: fields that make no readable record (for a
+//! Every kind can also be written from its fields: fields that make no readable record (for a
 //! start, also an odd list) give 12, then a short buffer gives 11, else the record stands at the
-//! buffer's first byte, the rest stays and the value is the bytes written."
+//! buffer's first byte, the rest stays and the value is the bytes written.
 
 use crate::answers::{Answer, Refusal};
 use crate::counters::{Version, OBJECTS};
@@ -23,7 +23,7 @@ impl Body {
         }
     }
 
-    /// "A body has at most 126 bytes": a longer one makes no readable record.
+    /// A body has at most 126 bytes: a longer one makes no readable record.
     fn append(&mut self, part: &[u8]) -> Result<(), Refusal> {
         let end = self.length + part.len();
         let place = self.bytes.get_mut(self.length..end);
@@ -32,7 +32,7 @@ impl Body {
         Ok(())
     }
 
-    /// "NoRoom: buffer shorter than the record to be written"
+    /// NoRoom: buffer shorter than the record to be written
     fn put(&self, kind: u16, buffer: &mut [u8]) -> Answer {
         let written = HEADER + self.length;
         let record = buffer.get_mut(..written).ok_or(Refusal::NoRoom)?;
@@ -73,7 +73,7 @@ pub fn write_event(event: Event, buffer: &mut [u8]) -> Answer {
     }
 }
 
-/// "first version u32, 24 words u32 (100 bytes)"; another number of words makes no readable
+/// First version u32, 24 words u32 (100 bytes); another number of words makes no readable
 /// record.
 pub fn write_fresh(first: Version, words: &[u32], buffer: &mut [u8]) -> Answer {
     if words.len() != OBJECTS {
@@ -87,7 +87,7 @@ pub fn write_fresh(first: Version, words: &[u32], buffer: &mut [u8]) -> Answer {
     body.put(FRESH, buffer)
 }
 
-/// "slot u8, n u8, n pairs (object u8, supremum u8)"; "for a start, also an odd list" gives 12.
+/// Slot u8, n u8, n pairs (object u8, supremum u8); for a start, also an odd list gives 12.
 pub fn write_start(slot: u8, list: &[u8], buffer: &mut [u8]) -> Answer {
     if list.len() % 2 == 1 {
         return Err(Refusal::BadRecord);
@@ -98,7 +98,7 @@ pub fn write_start(slot: u8, list: &[u8], buffer: &mut [u8]) -> Answer {
     body.put(START, buffer)
 }
 
-/// "slot u8, object u8, kind u8, zero u8, argument u32"
+/// Slot u8, object u8, kind u8, zero u8, argument u32
 pub fn write_call(slot: u8, object: u8, kind: u8, argument: u32, buffer: &mut [u8]) -> Answer {
     let mut body = Body::new();
     body.append(&[slot, object, kind, 0])?;
@@ -106,14 +106,14 @@ pub fn write_call(slot: u8, object: u8, kind: u8, argument: u32, buffer: &mut [u
     body.put(CALL, buffer)
 }
 
-/// "slot u8, object u8"
+/// Slot u8, object u8
 pub fn write_release(slot: u8, object: u8, buffer: &mut [u8]) -> Answer {
     let mut body = Body::new();
     body.append(&[slot, object])?;
     body.put(RELEASE, buffer)
 }
 
-/// "0x0104 commit, 0x0105 rollback: slot u8, tick u32"
+/// 0x0104 commit, 0x0105 rollback: slot u8, tick u32
 fn write_slot_and_tick(kind: u16, slot: u8, tick: u32, buffer: &mut [u8]) -> Answer {
     let mut body = Body::new();
     body.append(&[slot])?;
@@ -121,7 +121,7 @@ fn write_slot_and_tick(kind: u16, slot: u8, tick: u32, buffer: &mut [u8]) -> Ans
     body.put(kind, buffer)
 }
 
-/// "0x0201 committed, 0x0202 rolled back", refused with 12 where it would not read back.
+/// 0x0201 committed, 0x0202 rolled back, refused with 12 where it would not read back.
 pub fn write_end(
     kind: EndKind,
     tick: u32,
@@ -135,9 +135,9 @@ pub fn write_end(
     put_end(kind, tick, slot, entries, buffer)
 }
 
-/// "A successful end writes its record at the buffer's first byte, its value is the bytes written,
-/// and the rest of the buffer stays." The content is not tested: "The read-back of an end record
-/// is claimed for tables reached from fresh", and a live slot that declares nothing, which no run
+/// A successful end writes its record at the buffer's first byte, its value is the bytes written,
+/// and the rest of the buffer stays. The content is not tested: the read-back of an end record
+/// is claimed for tables reached from fresh, and a live slot that declares nothing, which no run
 /// from fresh has, ends with n = 0.
 pub fn put_end(kind: EndKind, tick: u32, slot: u8, entries: &[Entry], buffer: &mut [u8]) -> Answer {
     let mut body = Body::new();

@@ -1,4 +1,4 @@
-//! "Errors we have seen in drafts", each as a scenario in which the draft would answer otherwise.
+//! Errors that drafts have had, each as a scenario in which the draft would answer otherwise.
 
 mod common;
 
@@ -8,8 +8,8 @@ use reference::bench::BUFFER;
 use reference::counters::Version;
 use reference::order::{which_came_first, CameFirst};
 
-/// "Testing 'local is at least private minus one' as plain numbers. At the turnover a waiting task
-/// is let in beside the holder."
+/// Testing 'local is at least private minus one' as plain numbers. At the turnover a waiting task
+/// is let in beside the holder.
 #[test]
 fn a_waiting_task_is_not_let_in_at_the_turnover() {
     let mut tables = started(u32::MAX, &[0, 1], &[4, 0]);
@@ -21,7 +21,7 @@ fn a_waiting_task_is_not_let_in_at_the_turnover() {
     assert_eq!(tables.call(1, 4, WRITE, 6), Err(Refusal::Wait));
 }
 
-/// "Letting a spoiled transaction put its saved word back. Event 12 would leave 65."
+/// Letting a spoiled transaction put its saved word back. Event 12 would leave 65.
 #[test]
 fn a_spoiled_transaction_does_not_put_its_saved_word_back() {
     let mut tables = started(9, &[0, 1], &[4, 1]);
@@ -35,7 +35,7 @@ fn a_spoiled_transaction_does_not_put_its_saved_word_back() {
     assert_eq!(word(&tables, 4), 100);
 }
 
-/// "Spoiling only the next version and not every later caller."
+/// Spoiling only the next version and not every later caller.
 #[test]
 fn every_later_caller_is_spoiled() {
     let slots: Vec<u8> = (0..16).collect();
@@ -54,8 +54,8 @@ fn every_later_caller_is_spoiled() {
     }
 }
 
-/// "Committing once each object was let go or is on its turn, instead of on the terminal need.
-/// Event 8 would commit 65, which never was."
+/// Committing once each object was let go or is on its turn, instead of on the terminal need.
+/// Event 8 would commit 65, which never was.
 #[test]
 fn a_commit_waits_for_the_end_of_the_one_before() {
     let mut tables = started(9, &[0, 1], &[4, 1, 5, 0]);
@@ -69,8 +69,8 @@ fn a_commit_waits_for_the_end_of_the_one_before() {
     assert_eq!(commit(&mut tables, 1), Err(Refusal::Doomed));
 }
 
-/// "Using one start ticket modulo 2^32 to order live transactions: one may stay live while the
-/// others turn it over."
+/// Using one start ticket modulo 2^32 to order live transactions: one may stay live while the
+/// others turn it over.
 #[test]
 fn one_transaction_stays_live_while_others_turn_over() {
     let mut tables = fresh(9);

@@ -1,4 +1,4 @@
-//! "Both sides of each limit."
+//! Both sides of each limit.
 
 mod common;
 

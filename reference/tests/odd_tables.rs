@@ -8,8 +8,8 @@ use reference::bench::BUFFER;
 use reference::counters::{CallCount, Version};
 use reference::records::{examine, Fault};
 
-/// "Needs terminal + 1 = private on every declared object": met where none is declared; "The
-/// read-back of an end record is claimed for tables reached from fresh".
+/// Needs terminal + 1 = private on every declared object: met where none is declared; the
+/// read-back of an end record is claimed for tables reached from fresh.
 #[test]
 fn a_live_slot_that_declares_nothing_ends_with_n_0() {
     let mut tables = fresh(9);
@@ -26,7 +26,7 @@ fn a_live_slot_that_declares_nothing_ends_with_n_0() {
     assert_eq!(tables, fresh(9));
 }
 
-/// "Each declared object whose d is not 'Released' gets local = private": d that says Wait too.
+/// Each declared object whose d is not 'Released' gets local = private: d that says Wait too.
 #[test]
 fn an_end_lets_go_where_d_says_wait() {
     let mut tables = started(9, &[0], &[4, 0]);
@@ -35,7 +35,7 @@ fn an_end_lets_go_where_d_says_wait() {
     assert_eq!(tables.objects[4].local, Version(10));
 }
 
-/// "every other live slot that has called this object": declared or not; one not live stays.
+/// Every other live slot that has called this object: declared or not; one not live stays.
 #[test]
 fn the_called_mark_and_live_decide_who_is_spoiled() {
     let mut tables = started(9, &[0, 1, 2], &[4, 0]);
@@ -49,7 +49,7 @@ fn the_called_mark_and_live_decide_who_is_spoiled() {
     assert!(!pair(&tables, 3, 4).spoiled);
 }
 
-/// "for each declared object that was called": one called and not declared stays.
+/// For each declared object that was called: one called and not declared stays.
 #[test]
 fn a_pair_not_declared_is_not_restored() {
     let mut tables = started(9, &[0], &[4, 0]);
@@ -59,7 +59,7 @@ fn a_pair_not_declared_is_not_restored() {
     assert_eq!(word(&tables, 5), 0);
 }
 
-/// "A transaction is doomed if its slot is spoiled on any object, declared or not."
+/// A transaction is doomed if its slot is spoiled on any object, declared or not.
 #[test]
 fn spoiled_on_an_object_not_declared() {
     let mut tables = started(9, &[0], &[4, 0]);
@@ -69,7 +69,7 @@ fn spoiled_on_an_object_not_declared() {
     assert_eq!(rollback(&mut tables, 0), Ok(15));
 }
 
-/// "the count rises by one (modulo 256); if it then equals the supremum": a count past the supremum
+/// The count rises by one (modulo 256); if it then equals the supremum: a count past the supremum
 /// goes on until it comes round.
 #[test]
 fn a_count_past_its_supremum_comes_round() {
@@ -83,7 +83,7 @@ fn a_count_past_its_supremum_comes_round() {
     assert_eq!(tables.objects[4].local, Version(10));
 }
 
-/// "The slot becomes live and all its other entries zero."
+/// The slot becomes live and all its other entries zero.
 #[test]
 fn a_start_rewrites_the_whole_slot() {
     let mut tables = fresh(9);

@@ -10,8 +10,8 @@ use reference::sessions::{measured, session};
 use reference::tables::Tables;
 use reference::tally::{Tally, REACHABLE, ROWS, UNREACHABLE};
 
-/// "from fresh, on each object, global minus terminal is at most 16, and local lies between them";
-/// "Entries of a slot that is not live are all zero."
+/// From fresh, on each object, global minus terminal is at most 16, and local lies between them;
+/// Entries of a slot that is not live are all zero.
 fn holds_from_fresh(tables: &Tables) {
     for object in &tables.objects {
         let open = object.global.minus(object.terminal);

@@ -1,4 +1,4 @@
-//! The bench program: "It reads records from standard input and prints per event one line."
+//! The bench program: it reads records from standard input and prints per event one line.
 
 use std::io::{self, Read, Write};
 

@@ -55,7 +55,7 @@ pub fn rollback(tables: &mut Tables, slot: u8) -> Answer {
     tables.rollback(slot, 0, &mut [0; BUFFER])
 }
 
-/// The event is refused so, "returns the tables as they came and touches no byte of any buffer".
+/// The event is refused so, returns the tables as they came and touches no byte of any buffer.
 #[track_caller]
 pub fn refuses(tables: &Tables, event: Event, room: usize, refusal: Refusal) {
     let mut after = tables.clone();
