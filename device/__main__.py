@@ -1,4 +1,4 @@
-"""Plays sessions on the device and compares their lines and the bytes of their ends with the expected ones; all of sessions/ where none is named."""
+"""Plays sessions on the device and compares lines, the bytes of ends and the tables at last with the expected ones; all of sessions/ where none is named."""
 import argparse
 import sys
 from pathlib import Path

@@ -11,7 +11,7 @@ from device.thumb.faults import Fault
 from device.thumb.running import Run, run
 from people.answers import ACCEPTED, BAD_RECORD
 from people.composing import compose
-from people.leaving import lines_with_ends
+from people.leaving import written_out
 from people.playing import Step, pair
 
 # A session's name, its records, and the lines that are expected of it.
@@ -51,9 +51,9 @@ def first_difference(written: str, expected: str) -> str:
 
 
 def play(player: Player, name: str, records: bytes, expected: str) -> Played:
-    """Plays a session in the interpreter, and in qemu where that is installed, and compares lines and the bytes of ends."""
+    """Plays a session in the interpreter, and in qemu where that is installed, and compares all that it writes."""
     program, lines = player.program_of(records, name), expected.splitlines()
-    wanted = "\n".join(lines_with_ends(records, lines))
+    wanted = "\n".join(written_out(records, lines))
     try:
         ended = run(program, player.target.processor)
     except Fault as fault:

@@ -1,7 +1,7 @@
 /* Plays the records of a session, which are linked in, and writes the lines that the bench program writes.
  *
  * Behind the line of an accepted commit or rollback stand the bytes that it wrote, in hexadecimal. An event that changed another byte, in
- * its buffer or behind it, has a line that says so.
+ * its buffer or behind it, has a line that says so. At last stand the words of the tables' memory that are not 0, each behind its place.
  */
 #include "gustlantern.h"
 #include "host.h"
@@ -48,15 +48,22 @@ static uint32_t own_bytes(const uint8_t *record, uint32_t number, uint32_t value
     return written < GUSTLANTERN_END_BYTES ? written : GUSTLANTERN_END_BYTES;
 }
 
+/* Writes the last digits of a number in hexadecimal, at most 8, and a character behind them. */
+static void write_hexadecimal(uint32_t number, uint32_t digits, char behind)
+{
+    char text[10];
+    for (uint32_t place = digits; place-- > 0; number >>= 4)
+        text[place] = "0123456789ABCDEF"[number & 15];
+    text[digits] = behind;
+    text[digits + 1] = 0;
+    host_write(text);
+}
+
 /* Writes the bytes that an end wrote, and makes them as they were lent. */
 static void take_end(uint32_t own)
 {
-    char text[] = "00 ";
     for (uint32_t place = 0; place < own; place++) {
-        text[0] = "0123456789ABCDEF"[ends[place] >> 4];
-        text[1] = "0123456789ABCDEF"[ends[place] & 15];
-        text[2] = place + 1 < own ? ' ' : '\n';
-        host_write(text);
+        write_hexadecimal(ends[place], 2, place + 1 < own ? ' ' : '\n');
         ends[place] = AS_LENT;
     }
 }
@@ -76,6 +83,16 @@ static void test_lent(void)
         host_write("a byte that is not its own was changed\n");
 }
 
+static void write_tables(void)
+{
+    const uint32_t *memory = (const uint32_t *)&tables;
+    for (uint32_t place = 0; place < sizeof tables / sizeof *memory; place++)
+        if (memory[place]) {
+            write_hexadecimal(place, 4, ' ');
+            write_hexadecimal(memory[place], 8, '\n');
+        }
+}
+
 static int begins_fresh(const uint8_t *records, size_t length)
 {
     return length >= HEAD_BYTES + FRESH_BYTES && half_at(records) == FRESH_BYTES && half_at(records + 2) == FRESH_KIND;
@@ -89,16 +106,8 @@ static void make_fresh(const uint8_t *body)
     gustlantern_fresh(&tables, word_at(body), words);
 }
 
-void play(void)
+static void play_events(const uint8_t *record)
 {
-    const uint8_t *record = session_start;
-    if (!begins_fresh(record, (size_t)(session_end - record))) {
-        write_line(0, GUSTLANTERN_BAD_RECORD, 0);
-        return;
-    }
-    lend();
-    make_fresh(record + HEAD_BYTES);
-    record += HEAD_BYTES + FRESH_BYTES;
     for (uint32_t event = 1; record != session_end; event++) {
         uint32_t value = 0;
         uint32_t number = gustlantern_step(&tables, record, (size_t)(session_end - record), ends, GUSTLANTERN_END_BYTES, &value);
@@ -109,4 +118,16 @@ void play(void)
             return;
         record += HEAD_BYTES + half_at(record);
     }
+}
+
+void play(void)
+{
+    if (!begins_fresh(session_start, (size_t)(session_end - session_start))) {
+        write_line(0, GUSTLANTERN_BAD_RECORD, 0);
+        return;
+    }
+    lend();
+    make_fresh(session_start + HEAD_BYTES);
+    play_events(session_start + HEAD_BYTES + FRESH_BYTES);
+    write_tables();
 }

@@ -1,6 +1,6 @@
 """What a session leaves behind, from its accepted events alone: the bytes of its ends, and at last its tables."""
 import struct
-from typing import Dict, Iterator, List, Tuple
+from typing import Dict, Iterator, List, Optional, Tuple
 
 from people.answers import ACCEPTED
 from people.following import VERSIONS, Claim, Followed
@@ -38,20 +38,33 @@ class Left:
         return (self.followed.first_version + place) % VERSIONS
 
     def tables(self) -> Iterator[str]:
-        for number, word in enumerate(self.words):
-            places = [places[number] for places in (self.followed.given, self.followed.let_go, self.followed.ended)]
-            yield f"object {number}: {word} " + " ".join(str(self.version(place)) for place in places)
-        for slot in range(SLOTS):
+        """Every object, and every pair of a live slot."""
+        for number in range(OBJECTS):
+            yield f"object {number}: " + " ".join(map(str, self.object(number)))
+        for slot in sorted(self.followed.live):
             for number in range(OBJECTS):
-                if slot in self.followed.live:
-                    yield f"pair {slot} {number}: " + " ".join(map(str, self.pair(slot, number)))
+                yield f"pair {slot} {number}: " + " ".join(map(str, self.pair(slot, number)))
+
+    def object(self, number: int) -> List[int]:
+        places = [places[number] for places in (self.followed.given, self.followed.let_go, self.followed.ended)]
+        return [self.words[number], *map(self.version, places)]
 
     def pair(self, slot: int, number: int) -> List[int]:
-        claim = self.followed.claim(slot, number)
+        """Whether the slot is live; declared, supremum, private version, count, called, spoiled, saved."""
+        claim = self.followed.claim(slot, number) if slot in self.followed.live else None
         if claim is None:
-            return [1, 0, 0, 0, 0, 0, 0, 0]
+            return [int(slot in self.followed.live), 0, 0, 0, 0, 0, 0, 0]
         saved = self.saved.get(claim, 0)
         return [1, 1, claim.supremum, claim.version, claim.count, int(claim.called), int(claim.spoiled), saved]
+
+    def memory(self) -> bytes:
+        """The tables as the library keeps them: words, bytes and marks, at the places that docs/ARCHITECTURE.md says."""
+        pairs = [self.pair(slot, number) for slot in range(SLOTS) for number in range(OBJECTS)]
+        live, declared, supremum, private, count, called, spoiled, saved = zip(*pairs)
+        words = [word for number in range(OBJECTS) for word in self.object(number)]
+        words += [word for both in zip(private, saved) for word in both]
+        counts = [byte for both in zip(supremum, count) for byte in both]
+        return struct.pack(f"<{len(words)}I", *words) + bytes([*counts, *live[::OBJECTS], *declared, *called, *spoiled])
 
 
 def end_record(end: End, claims: List[Claim]) -> str:
@@ -61,28 +74,30 @@ def end_record(end: End, claims: List[Claim]) -> str:
     return (struct.pack("<HH", len(body), kind) + body).hex(" ").upper()
 
 
-def ends_and_tables(records: bytes, lines: List[str]) -> Tuple[Dict[int, str], List[str]]:
-    """The bytes of each accepted end, by its event's number, and the tables at last; nothing where the session does not begin."""
+def ends_and_left(records: bytes, lines: List[str]) -> Tuple[Dict[int, str], Optional[Left]]:
+    """The bytes of each accepted end, by its event's number, and what is left at last; nothing where the session does not begin."""
     played = pair(records, lines)
     if lines and played.steps[0].number == 0:
-        return {}, []
+        return {}, None
     left, ends = Left(played.first_version, list(read_record(records).words)), {}
     for step in played.steps:
         if step.answer == ACCEPTED:
             claims = left.accept(step.content)
             if isinstance(step.content, End):
                 ends[step.number] = end_record(step.content, claims)
-    return ends, list(left.tables())
+    return ends, left
 
 
 def left_behind(records: bytes, lines: List[str]) -> List[str]:
     """The ends and the tables in the words of the library's players."""
-    ends, tables = ends_and_tables(records, lines)
-    return [*ends.values(), *tables]
+    ends, left = ends_and_left(records, lines)
+    return [*ends.values(), *(left.tables() if left else ())]
 
 
-def lines_with_ends(records: bytes, lines: List[str]) -> List[str]:
-    """The lines, and behind that of each accepted end the bytes of its record."""
-    ends, _ = ends_and_tables(records, lines)
+def written_out(records: bytes, lines: List[str]) -> List[str]:
+    """What a device writes: the lines, behind that of each accepted end its bytes, and at last the words of memory that are not 0."""
+    ends, left = ends_and_left(records, lines)
     numbers = [int(line.split()[0]) for line in lines]
-    return [said for number, line in zip(numbers, lines) for said in (line, ends.get(number)) if said]
+    memory = struct.iter_unpack("<I", left.memory() if left else b"")
+    return [said for number, line in zip(numbers, lines) for said in (line, ends.get(number)) if said] + [
+        f"{place:04X} {word:08X}" for place, (word,) in enumerate(memory) if word]

@@ -1,4 +1,4 @@
-"""Tests that a wrong byte of an end is found: in what a session writes, and by what plays one."""
+"""Tests that a wrong byte of an end or of the tables is found: in what a session writes, and by what plays one."""
 import struct
 import unittest
 from pathlib import Path
@@ -7,7 +7,7 @@ from device.building import SESSION, SMALL, START, SUPPORT, TARGETS, compile_c, 
 from device.kit import ROOT
 from device.playing import by_hand, first_difference, play
 from device.tests.test_session import FRESH, STAND_IN, line
-from people.leaving import lines_with_ends
+from people.leaving import written_out
 
 FIRST_END = "0B 00 02 02 07 00 00 00 00 01 03 00 00 00 00"
 SECOND_END = "10 00 02 02 09 00 00 00 01 02 03 01 00 00 00 05 00 00 00 00"
@@ -28,11 +28,23 @@ class StandIn:
 
 
 class Ends(unittest.TestCase):
-    def test_each_byte_of_an_end_counts(self):
+    def setUp(self):
         _, records, lines = by_hand(ROOT / "sessions" / "w.session")
-        wanted = lines_with_ends(records, lines.splitlines())
-        self.assertEqual((wanted[9:11], wanted[12:]), (["10 0 15", FIRST_END], ["12 0 20", SECOND_END]))
-        text = "\n".join(wanted)
+        self.wanted = written_out(records, lines.splitlines())
+
+    def test_session_w(self):
+        self.assertEqual((self.wanted[9:11], self.wanted[12:14]), (["10 0 15", FIRST_END], ["12 0 20", SECOND_END]))
+        object_3 = ["000C 00000064", "000D 00000001", "000E 00000001", "000F 00000001"]
+        self.assertEqual([line for line in self.wanted[14:] if "000C" <= line < "0010"], object_3)
+
+    def test_each_word_of_the_tables_counts(self):
+        text = "\n".join(self.wanted)
+        wrong = text.replace("000E 00000001", "000E 00000000")
+        place = self.wanted.index("000E 00000001") + 1
+        self.assertEqual(first_difference(wrong, text), f"line {place} is '000E 00000000', expected '000E 00000001'")
+
+    def test_each_byte_of_an_end_counts(self):
+        text = "\n".join(self.wanted)
         self.assertEqual(first_difference(text, text), "")
         for at in (0, 5, 14):
             wrong = bytearray.fromhex(FIRST_END)

@@ -12,6 +12,8 @@ FRESH = struct.pack("<HH25I", 100, 0x0100, FIRST, *WORDS)
 SUM = FIRST + sum(word * (place + 1) for place, word in enumerate(WORDS))
 EVENT = struct.pack("<HHBB", 2, 0x0103, 0, 5)
 REFUSED = struct.pack("<HHBI", 5, 0x0104, 9, 7)
+# What the stand-in leaves at the second place and at the last one.
+TABLES = "0001 0123ABCD\n0543 01000000\n"
 CHANGED = "a byte that is not its own was changed\n"
 BAD = struct.pack("<HHB", 1, 0x0777, 12)
 
@@ -30,16 +32,16 @@ class Session(unittest.TestCase):
     def setUpClass(cls):
         cls.objects = {target: [compile_c(source, target) for source in (SESSION, STAND_IN, START, SUPPORT)] for target in TARGETS.values()}
 
-    def plays(self, records, text):
+    def plays(self, records, text, tables=TABLES):
         held = records_source(records, "of-test")
         for target, objects in self.objects.items():
             made = link([*objects, compile_c(held, target)], place(target, SMALL, "session-of-test.elf"))
-            self.assertEqual(run(made, target.processor).text, text)
+            self.assertEqual(run(made, target.processor).text, text + tables)
 
     def test_first_record_that_is_not_fresh(self):
         wrong_length, wrong_kind = b"\x63" + FRESH[1:], FRESH[:2] + b"\x01" + FRESH[3:]
         for records in (b"", FRESH[:3], FRESH[:-1], EVENT + FRESH, wrong_length, wrong_kind):
-            self.plays(records, "0 12 0\n")
+            self.plays(records, "0 12 0\n", tables="")
 
     def test_fresh_alone(self):
         self.plays(FRESH, "")

@@ -5,7 +5,9 @@ static uint32_t sum;
 
 void gustlantern_raw_fresh(uint32_t *words, uint8_t *bytes, uint8_t *marks, uint32_t first, const uint32_t *given)
 {
-    (void)words, (void)bytes, (void)marks;
+    (void)bytes;
+    words[1] = 0x0123ABCD;
+    marks[GUSTLANTERN_MARKS - 1] = 1;
     sum = first;
     for (uint32_t object = 0; object < GUSTLANTERN_OBJECTS; object++)
         sum += given[object] * (object + 1);
