@@ -1,5 +1,6 @@
 """The parts of the documents that are made: a table of the crates with what was measured of them, and a table of the wrong programs."""
 import re
+import sys
 
 from counting import ROOT, counts, listed, places
 
@@ -14,9 +15,17 @@ def table(heading, rows):
     return "".join("| " + " | ".join(map(str, cells)) + " |\n" for cells in lines)
 
 
+def part_of(document):
+    """The made part of a document, between its two marks."""
+    found = BETWEEN.search(document.read_text())
+    if not found:
+        sys.exit(f"{document.relative_to(ROOT)} has no part between the marks of tools/documents")
+    return found
+
+
 def measured():
     """The seconds and the memory that stand in the document, by crate."""
-    rows = re.findall(r"^\| (\w+) \|.* ([\d-]+) \| ([\d-]+) \|$", MEASURES.read_text(), re.MULTILINE)
+    rows = re.findall(r"^\| (\w+) \|.* ([\d-]+) \| ([\d-]+) \|$", part_of(MEASURES)[2], re.MULTILINE)
     return {crate: cells for crate, *cells in rows}
 
 
@@ -36,7 +45,8 @@ def program_table():
 
 def made(document, part):
     """The text of a document with its made part anew."""
-    return BETWEEN.sub(lambda found: found[1] + part + found[3], document.read_text())
+    found = part_of(document)
+    return found.string[:found.start(2)] + part + found.string[found.end(2):]
 
 
 def all_made():
