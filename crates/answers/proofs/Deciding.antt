@@ -31,6 +31,16 @@ decided (rule ∷ rules) = first (rule .holds) refl (decided rules)
     first true e rest = inr (record { refusal = rule .refusal; gives = λ refused accepted. rw e })
     first false e rest = later rule rules e rest
 
+-- behind a rule, rules that decide alike wherever that rule does not hold decide alike
+pub behind-rule : {A : Type 0} (rule : Rule) (these those : List Rule) (refused : Refusal → A) (accepted : A)
+    → (rule .holds ≡ false → decide these refused accepted ≡ decide those refused accepted)
+    → decide (rule ∷ these) refused accepted ≡ decide (rule ∷ those) refused accepted
+behind-rule {A} rule these those refused accepted alike = go (rule .holds) refl
+  where
+    go : (t : Bool) → rule .holds ≡ t → decide (rule ∷ these) refused accepted ≡ decide (rule ∷ those) refused accepted
+    go true e = rw e
+    go false e = rw e (alike e)
+
 -- the other way: where no rule holds, what is accepted is given
 pub passed : {A : Type 0} (rules : List Rule) (refused : Refusal → A) (accepted : A) → Passes rules → decide rules refused accepted ≡ accepted
 passed [] refused accepted p = refl

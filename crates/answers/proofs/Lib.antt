@@ -1,3 +1,4 @@
+pub mod Tests
 pub mod Tells
 pub mod Deciding
 pub mod Saying

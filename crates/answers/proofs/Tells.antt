@@ -8,7 +8,7 @@ use Rattle.answers.specs.declared.Refusal.the-variants.{BadSlot, BadObje
 use Rattle.answers.specs.declared.Answer.{Answer}
 use Rattle.answers.specs.declared.Answer.the-variants.{Accepted, Refused}
 
--- the table, read by number
+-- R20 read by number
 abbrev table : List Answer
 table =
     Accepted 0

@@ -1,10 +1,11 @@
--- 'The numbers a task can get back': the number of each refusal, and what an answer tells: a number and a value.
+-- The number of each refusal, and what an answer tells: a number and a value.
 use Prim.Native.Nat.{ℕ}
 use Rattle.answers.specs.declared.Refusal.{Refusal}
 use Rattle.answers.specs.declared.Refusal.the-variants.{BadSlot, BadObject, BadList, Busy, Idle, NotDeclared, BadCall, Released, Doomed, Wait, NoRoom, BadRecord}
 use Rattle.answers.specs.declared.Answer.{Answer}
 use Rattle.answers.specs.declared.Answer.the-variants.{Accepted, Refused}
 
+-- R20: the numbers 1 to 12
 abbrev pub numberOf : Refusal → ℕ
 numberOf BadSlot = 1
 numberOf BadObject = 2
@@ -19,16 +20,16 @@ numberOf Wait = 10
 numberOf NoRoom = 11
 numberOf BadRecord = 12
 
--- what the caller sees of an answer
+-- R11: what the caller sees of an answer
 pub record Reply : Type 0 where
   pub number : ℕ
   pub value : ℕ
 
--- 0 is accepted
+-- R20: 0 where nothing refuses
 abbrev pub accepted : ℕ → Reply
 accepted v = record { number = 0; value = v }
 
--- every refusal has value 0
+-- R11: 0 is the value beside every refusal
 abbrev pub refused : Refusal → Reply
 refused r = record { number = numberOf r; value = 0 }
 

@@ -1,9 +1,9 @@
-// The numbers a task can get back: the refusals, an answer with its value, and a verdict of the rules.
+// The refusals with their numbers, an answer with its value, and the verdict of an event's rules.
 ghost use mathlib.Core.Path.{_≡_};
 ghost use Rattle.answers.specs.Numbers.{numberOf, replyOf};
 ghost use mathlib.Core.Bool.{_||_};
 
-// The table's names, in its order.
+// R20: the names of the numbers 1 to 12, in their order.
 pub enum Refusal {
     BadSlot,
     BadObject,
@@ -40,14 +40,14 @@ impl Refusal {
     }
 }
 
-// What a step or a writer gives back: accepted with a value, or a refusal.
+// R11: an event or a writer is accepted with a value, or refused.
 pub enum Answer {
     Accepted(u32),
     Refused(Refusal),
 }
 
 impl Answer {
-    // 0 is accepted.
+    // R20: 0 where nothing refuses.
     pub fn number(self) -> u32
         ensures { λ r. ⌜ r ≡ replyOf self .number ⌝ }
     {
@@ -57,7 +57,7 @@ impl Answer {
         }
     }
 
-    // Every refusal has value 0.
+    // R11: 0 beside every refusal.
     pub fn value(self) -> u32
         ensures { λ r. ⌜ r ≡ replyOf self .value ⌝ }
     {
@@ -68,6 +68,7 @@ impl Answer {
     }
 }
 
+// R19: no rule holds, or the first that does refuses.
 pub enum Verdict {
     Passes,
     Refuses(Refusal),

@@ -1,5 +1,5 @@
--- The comparison of two versions: changing A and B over changes the answer over, the limits of the paper, and the true order of
--- versions counted without wrapping.
+-- The comparison of two versions: its limits, that changing A and B over changes the answer over, and that it is the order of versions
+-- counted on past the turnover.
 use Prim.Native.Nat.{ℕ, _+_, _%_, _≤_, _<_}
 use mathlib.Core.Path.{_≡_, _∙_, refl, sym, ap}
 use mathlib.Core.Bool.{Bool, true, false}
@@ -29,7 +29,7 @@ b-at e h =
     let m : e ≡ 2147483648 → ⊥ = λ q. omega arith in
     simp (ne-eqb _ _ n, lt-leb _ _ k, ne-eqb _ _ m)
 
--- the paper's limits: e of 2147483647 is A, e of 2147483648 is Far
+-- the limits of R36: e of 2147483647 is A, e of 2147483648 is Far
 pub last-a : (v : ℕ) → v < turnover → compared v ((v + 2147483647) % turnover) ≡ A
 last-a v h = a-at (difference ((v + 2147483647) % turnover) v) (omega arith) (omega arith)
 
@@ -66,6 +66,6 @@ compared-swapped a b ha hb = same (eqb e 0) refl
         same-at f (omega arith) ∙ ap swapped (sym (same-at e k))
     same false q = first (leb e 2147483647) refl (eqb-false _ _ q)
 
--- the true order of versions counted without wrapping, where they lie less than half the turnover apart
+-- R37: the order of versions counted on past the turnover, where they lie less than half of it apart
 pub first-unwrapped : (p q : ℕ) → p < q → q < p + 2147483648 → compared (p % turnover) (q % turnover) ≡ A
 first-unwrapped p q h k = a-at (difference (q % turnover) (p % turnover)) (omega arith) (omega arith)

@@ -1,4 +1,4 @@
--- 'Which came first', of two versions of one object. 'Let e be B's version minus A's.'
+-- Which of two versions of one object came first.
 use Prim.Native.Nat.{ℕ}
 use lib.Dec.{leb, eqb}
 use Rattle.answers.specs.Order.{pick}
@@ -6,10 +6,11 @@ use Rattle.counters.specs.Versions.{difference}
 use Rattle.counters.specs.declared.Comparison.{Comparison}
 use Rattle.counters.specs.declared.Comparison.the-variants.{A, B, Same, Far}
 
--- 'e = 0: Same. e from 1 to 2147483647: A. e = 2147483648: Far. Above: B.'
+-- R36: by e
 abbrev pub byDifference : ℕ → Comparison
 byDifference e = pick (eqb e 0) Same (pick (leb e 2147483647) A (pick (eqb e 2147483648) Far B))
 
+-- R36: of A's version and B's
 abbrev pub compared : ℕ → ℕ → Comparison
 compared a b = byDifference (difference b a)
 

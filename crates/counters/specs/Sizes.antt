@@ -4,6 +4,6 @@ use Rattle.counters.specs.declared.Size as declared
 abbrev pub Size : Type 0
 Size = declared.Size
 
--- 'tables of 16 transaction slots (0 to 15) and 24 objects (0 to 23)'
+-- R1: the pump
 abbrev pub base : Size
 base = record { slots = 16; objects = 24 }

@@ -1,10 +1,10 @@
-// The counters that the paper keeps apart, and all that is done with versions: the wrapping sum and difference,
-// whose turn it is, the terminal need, and which of two versions came first.
+// The kinds of numbers that are kept apart (R2), and all that is done with versions: the next one, the difference, the
+// turn, the terminal need, and which of two came first.
 ghost use mathlib.Core.Path.{_≡_};
 ghost use Rattle.counters.specs.Versions.{next, difference, turnAt, terminalNeed};
 ghost use Rattle.counters.specs.Comparing.{compared};
 
-// The pump's sizes.
+// R1: the sizes of a pump.
 pub const SLOTS: u8 = 16;
 
 pub const OBJECTS: u8 = 24;
@@ -15,24 +15,24 @@ pub struct Size {
     pub objects: u8,
 }
 
-// A version: 32 bits, and it wraps.
+// R2: a version, modulo 2^32.
 pub struct Version(pub u32);
 
-// How often a pair was called.
+// R3: the count of a pair.
 pub struct CallCount(pub u8);
 
 pub struct SlotNo(pub u8);
 
 pub struct ObjectNo(pub u8);
 
-// What d, private version minus local version, says of a transaction on an object.
+// R8: the turn of a pair.
 pub enum Turn {
     Now,
     Wait,
     Released,
 }
 
-// Which of two versions of one object was given out first. Far: they lie half the turnover apart, and neither was.
+// R36: which of two versions of one object came first; neither did where they are equal or half the turnover apart.
 pub enum Comparison {
     A,
     B,
@@ -41,21 +41,21 @@ pub enum Comparison {
 }
 
 impl Version {
+    // R2: the version after it.
     pub fn next(self) -> Version
         ensures { λ r. ⌜ r .0 ≡ next (self .0) ⌝ }
     {
         Version(std::num::wrapping_add_u32(self.0, 1))
     }
 
-    // self minus other, modulo 2^32.
+    // R2: self minus other.
     pub fn minus(self, other: Version) -> u32
         ensures { λ r. ⌜ r ≡ difference (self .0) (other .0) ⌝ }
     {
         std::num::wrapping_sub_u32(self.0, other.0)
     }
 
-    // Whose turn it is where self is private: d = 1 is the transaction's turn, d from 2 to slots is Wait, any other d
-    // is Released.
+    // R8: the turn, where self is the private version.
     pub fn turn(self, local: Version, slots: u8) -> Turn
         ensures { λ r. ⌜ r ≡ turnAt slots (difference (self .0) (local .0)) ⌝ }
     {
@@ -72,14 +72,14 @@ impl Version {
         Turn::Released
     }
 
-    // Whether terminal + 1 = private, where self is private.
+    // R9: on one object, where self is the private version.
     pub fn meets_terminal_need(self, terminal: Version) -> bool
         ensures { λ r. ⌜ r ≡ terminalNeed (terminal .0) (self .0) ⌝ }
     {
         terminal.next().0 == self.0
     }
 
-    // Of self, which is A's version, and B's: which came first.
+    // R36: self is A's version, the other is B's.
     pub fn compare(self, other: Version) -> Comparison
         ensures { λ r. ⌜ r ≡ compared (self .0) (other .0) ⌝ }
     {

@@ -1,4 +1,4 @@
-// The kinds table: what a call of each kind does to the word, and its answer.
+// R14: what a call of each kind makes of the word, and its value.
 ghost use mathlib.Core.Path.{_≡_};
 ghost use Rattle.kinds.specs.Kinds.{acted};
 

@@ -1,4 +1,4 @@
--- What each event does to one object and one pair: the sentences of 'Steps' that speak of one place.
+-- What each event makes of one object and of one pair.
 use Prim.Native.Nat.{ℕ, _+_, _%_}
 use mathlib.Core.Bool.{Bool, true, false, not, _&&_}
 use lib.Dec.{eqb}
@@ -11,11 +11,11 @@ use Rattle.kinds.specs.Kinds.{acted}
 use Rattle.objects.specs.declared.Object.{Object}
 use Rattle.objects.specs.declared.Pair.{Pair}
 
--- 'Entries of a slot that is not live are all zero.'
+-- R7: a pair that is zero
 abbrev pub noPair : Pair
 noPair = record { declared = false; supremum = 0; private = record { 0 = 0 }; count = record { 0 = 0 }; called = false; spoiled = false; saved = 0 }
 
--- 'Let d be private version minus local version.'
+-- R8: the turn of a pair
 abbrev pub turnOf : ℕ → Pair → Object → Turn
 turnOf slots pair object = turnAt slots (difference (pair .private .0) (object .local .0))
 
@@ -29,23 +29,24 @@ saysWait Now = false
 saysWait Wait = true
 saysWait Released = false
 
--- Start: 'the global version rises by one and becomes the private version'
+-- R12: the next version is taken
 abbrev pub givenOut : Object → Object
 givenOut object = record { word = object .word; global = record { 0 = next (object .global .0) }; local = object .local; terminal = object .terminal }
 
--- 'the pair is declared with count 0, not called, not spoiled'
+-- R12: a pair as a start leaves it
 abbrev pub declaredWith : ℕ → Version → Pair
 declaredWith supremum private =
     record { declared = true; supremum = supremum; private = private; count = record { 0 = 0 }; called = false; spoiled = false; saved = 0 }
 
--- Call: 'Unless the supremum is 0 the count rises by one (modulo 256); if it then equals the supremum, ..'
+-- R13: the count behind a call
 abbrev pub countAfter : Pair → ℕ
 countAfter pair = pick (eqb (pair .supremum) 0) (pair .count .0) ((pair .count .0 + 1) % 256)
 
+-- R13: whether the call lets the object go
 abbrev pub reaches : Pair → Bool
 reaches pair = not (eqb (pair .supremum) 0) && eqb (countAfter pair) (pair .supremum)
 
--- '.. the local version becomes the private version'
+-- R13: the object behind a call
 abbrev pub calledObject : ℕ → ℕ → Pair → Object → Object
 calledObject kind argument pair object =
     record {
@@ -55,7 +56,7 @@ calledObject kind argument pair object =
       terminal = object .terminal;
     }
 
--- 'On the first call the word is saved and the pair is called.'
+-- R13: the pair behind a call
 abbrev pub calledPair : Pair → Object → Pair
 calledPair pair object =
     record {
@@ -68,11 +69,11 @@ calledPair pair object =
       saved = pick (pair .called) (pair .saved) (object .word);
     }
 
--- Release: 'The local version becomes the private version.'
+-- R15: an object that is let go
 abbrev pub letGo : Version → Object → Object
 letGo private object = record { word = object .word; global = object .global; local = private; terminal = object .terminal }
 
--- Commit: 'Each declared object whose d is not "Released" gets local = private; every declared object gets terminal = private.'
+-- R16: a declared object behind an end
 abbrev pub ended : ℕ → Pair → Object → Object
 ended slots pair object =
     record {
@@ -82,14 +83,14 @@ ended slots pair object =
       terminal = pair .private;
     }
 
--- Rollback: 'for each declared object that was called and is not spoiled, the word becomes the saved word'
+-- R17: whether a rollback puts the saved word back, and the object then
 abbrev pub restores : Pair → Bool
 restores pair = pair .declared && (pair .called && not (pair .spoiled))
 
 abbrev pub restored : Pair → Object → Object
 restored pair object = record { word = pair .saved; global = object .global; local = object .local; terminal = object .terminal }
 
--- 'and every other live slot that has called this object becomes spoiled on it'
+-- R17: a pair that such a rollback spoils
 abbrev pub spoiledPair : Pair → Pair
 spoiledPair pair =
     record {

@@ -1,4 +1,4 @@
-// One object and one pair, and what each event but a call does to one place: the leaves that every step is made of.
+// One object and one pair, and what each event but a call makes of one of them.
 
 ghost use mathlib.Core.Path.{_≡_};
 ghost use Rattle.objects.specs.Places.{turnOf, givenOut, letGo, ended, restored, restores, declaredWith, noPair};
@@ -6,7 +6,7 @@ use counters::CallCount;
 use counters::Turn;
 use counters::Version;
 
-// Per object: a word and three versions, the last given out, the last let go and the last ended.
+// R4: what is kept of an object.
 pub struct Object {
     pub word: u32,
     pub global: Version,
@@ -14,7 +14,7 @@ pub struct Object {
     pub terminal: Version,
 }
 
-// Per slot and object.
+// R4: what is kept of a slot and an object.
 pub struct Pair {
     pub declared: bool,
     pub supremum: u8,
@@ -26,7 +26,7 @@ pub struct Pair {
 }
 
 impl Object {
-    // The global version rises by one.
+    // R12: a start takes the next version.
     pub fn give_out(self) -> Object
         ensures { λ r. ⌜ r ≡ givenOut self ⌝ }
     {
@@ -41,7 +41,7 @@ impl Object {
         }
     }
 
-    // The local version becomes the private version.
+    // R15: the object is let go.
     pub fn let_go(self, private: Version) -> Object
         ensures { λ r. ⌜ r ≡ letGo private self ⌝ }
     {
@@ -55,7 +55,7 @@ impl Object {
         }
     }
 
-    // Let go unless d says Released, and the terminal version becomes the private version.
+    // R16: the versions behind an end.
     pub fn end(self, pair: Pair, slots: u8) -> Object
         ensures { λ r. ⌜ r ≡ ended slots pair self ⌝ }
     {
@@ -84,7 +84,7 @@ impl Object {
         }
     }
 
-    // The word becomes the saved word.
+    // R17: the word before the pair's first call is back.
     pub fn restore(self, pair: Pair) -> Object
         ensures { λ r. ⌜ r ≡ restored pair self ⌝ }
     {
@@ -101,7 +101,7 @@ impl Object {
 }
 
 impl Pair {
-    // A pair of a slot that is not live.
+    // R7: a pair that is zero.
     pub fn none() -> Pair
         ensures { λ r. ⌜ r ≡ noPair ⌝ }
     {
@@ -116,7 +116,7 @@ impl Pair {
         }
     }
 
-    // A pair as a start leaves it.
+    // R12: a pair as a start leaves it.
     pub fn declare(supremum: u8, private: Version) -> Pair
         ensures { λ r. ⌜ r ≡ declaredWith supremum private ⌝ }
     {
@@ -131,6 +131,7 @@ impl Pair {
         }
     }
 
+    // R8: the turn of the pair.
     pub fn turn(self, object: Object, slots: u8) -> Turn
         ensures { λ r. ⌜ r ≡ turnOf slots self object ⌝ }
     {
@@ -138,7 +139,7 @@ impl Pair {
         self.private.turn(local, slots)
     }
 
-    // Whether a rollback puts the saved word back.
+    // R17: whether a rollback puts the saved word back.
     pub fn restores(self) -> bool
         ensures { λ r. ⌜ r ≡ restores self ⌝ }
     {
