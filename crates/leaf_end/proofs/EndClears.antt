@@ -10,7 +10,7 @@ use Rattle.answers.specs.Order.{pick}
 use Rattle.counters.specs.Sizes.{Size}
 use Rattle.objects.specs.Places.{noPair, ended, restores, restored, spoiledPair}
 use Rattle.objects.specs.declared.Pair.{Pair}
-use Rattle.leaf_end.specs.Ends.{endCleared}
+use Rattle.leaf_end.specs.Serving.Ends.{endCleared}
 use Rattle.rules.proofs.Cleared.{clearedTo}
 use Rattle.rules.specs.Tables.{State, objectAt, liveAt, pairAt, withObject, withPair}
 use Rattle.rules.specs.Walks.{eachBelow}

@@ -5,6 +5,7 @@ use mathlib.Core.Path.{_≡_, refl, sym, ap, _∙_}
 use native.Mathlib.Omega.{arith}
 use lib.Seq.{set-set}
 use borrow.Author.Tests.{eq-eqb}
+use Rattle.answers.proofs.Tests.{both-true}
 use Rattle.answers.specs.Order.{pick}
 use Rattle.counters.specs.Sizes.{Size}
 use Rattle.objects.specs.Places.{noPair, ended, restores, restored}
@@ -16,12 +17,8 @@ use Rattle.rules.specs.Effects.{spoilOne, spoilOthers, restoreOne, endOne, endT
 use Rattle.rules.proofs.Stores.{Sized, sized-object, sized-pair, object-kept}
 use Rattle.rules.proofs.Walking.{each-zero, each-next}
 use Rattle.rules.proofs.Restored.{restore-keeps, restore-object}
-use Rattle.leaf_end.specs.Ends.{endedObject, spreadOf}
+use Rattle.leaf_end.specs.Serving.Ends.{endedObject, spreadOf}
 use Rattle.leaf_end.proofs.Spoils.{spoils-beside}
-
-first-of-both : (a b : Bool) → (a && b) ≡ true → a ≡ true
-first-of-both true b e = refl
-first-of-both false b e = e
 
 end-at : (z : Size) (s o : ℕ) (v : State) (pair : Pair) (object : Object) → pairAt z v s o ≡ pair → objectAt v o ≡ object → pair .declared ≡ true
     → endOne z s o v ≡ withObject v o (ended (z .slots) pair object)
@@ -49,7 +46,7 @@ module _ (z : Size) (s o : ℕ) (u : State) (sized : Sized z u) (inside : o < z 
       let object : Object = ended (z .slots) pair word in
       let v : State = spoilOthers z s o (withObject u o word) in
       let is-v : restoreOne z s o u ≡ v = rw e in
-      let declared : pair .declared ≡ true = first-of-both (pair .declared) _ e in
+      let declared : pair .declared ≡ true = both-true (pair .declared) _ e .0 in
       let own : pairAt z v s o ≡ pair = ap (λ (w : State). pairAt z w s o) (sym is-v) ∙ restore-keeps z u sized s o inside .own o inside in
       let there : objectAt v o ≡ word = ap (λ (w : State). objectAt w o) (sym is-v) ∙ restore-object z u sized s o inside o ∙ rw (e, eq-eqb o o refl) in
       let twice : withObject (withObject u o word) o object ≡ withObject u o object =
@@ -71,7 +68,7 @@ module _ (z : Size) (s o : ℕ) (u : State) (sized : Sized z u) (inside : o < z 
           ≡ endTurn z true s o u
       go true e =
           let pair : Pair = pairAt z u s o in
-          let declared : pair .declared ≡ true = first-of-both (pair .declared) _ e in
+          let declared : pair .declared ≡ true = both-true (pair .declared) _ e .0 in
           let all : spreadOf (z .slots) true pair ≡ z .slots = ap (λ (b : Bool). pick b (z .slots) 0) e in
           let object : endedObject (z .slots) true pair (objectAt u o) ≡ ended (z .slots) pair (restored pair (objectAt u o)) =
           λ i. pick (declared i) (ended (z .slots) pair (pick (e i) (restored pair (objectAt u o)) (objectAt u o))) (objectAt u o) in

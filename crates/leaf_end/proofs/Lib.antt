@@ -1,4 +1,4 @@
-pub mod Seeing
+pub mod Standings
 pub mod Spoils
 pub mod EndClears
 pub mod EndTurns

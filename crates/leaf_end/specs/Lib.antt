@@ -1,2 +1,1 @@
-pub mod Sights
-pub mod Ends
+pub mod Serving

@@ -1,4 +1,4 @@
-// What an end sees of its slot's objects, what its rules say of that, and what it makes of an object.
+// How the slot of an end stands, what the rules of an end say of that, and what an end makes of an object.
 ghost use Prim.Native.Nat.{ℕ, _≤_};
 ghost use mathlib.Core.List.{[], _∷_};
 ghost use mathlib.Core.Path.{_≡_};
@@ -7,11 +7,11 @@ ghost use Rattle.answers.specs.declared.Refusal.the-variants.{Wait, NoRoom};
 ghost use lib.ListN.{length};
 ghost use Rattle.rules.specs.Refusing.{misses, endRules};
 ghost use Rattle.rules.specs.Effects.{entryOf, endFields};
-ghost use Rattle.leaf_end.specs.Sights.{noSight, seen};
+ghost use Rattle.leaf_end.specs.Serving.Standings.{standingOfNone, standingWith};
 ghost use Rattle.answers.specs.declared.Verdict.the-variants.{Passes, Refuses};
 ghost use mathlib.Core.Bool.{_&&_};
 ghost use Rattle.objects.specs.Places.{restores};
-ghost use Rattle.leaf_end.specs.Ends.{endedObject, spreadOf};
+ghost use Rattle.leaf_end.specs.Serving.Ends.{endedObject, spreadOf};
 use answers::Refusal;
 use answers::Verdict;
 use answers::either;
@@ -21,31 +21,32 @@ use objects::Object;
 use objects::Pair;
 use record_layout::fields::Fields;
 
-// Whether the slot is doomed, whether a terminal need is not met, and how many bytes the entries of the record have.
-pub struct Sight {
+// How a slot stands before its end: whether it is doomed (R10), whether it misses its terminal need (R9), and how many
+// bytes the entries of its record have (R27).
+pub struct Standing {
     pub doomed: bool,
     pub unmet: bool,
     pub bytes: u16,
 }
 
-impl Sight {
-    // Before the first object.
-    pub fn none() -> Sight
-        ensures { λ r. ⌜ r ≡ noSight ⌝ }
+impl Standing {
+    // Before any object is asked about.
+    pub fn of_none() -> Standing
+        ensures { λ r. ⌜ r ≡ standingOfNone ⌝ }
     {
-        Sight {
+        Standing {
             doomed: false,
             unmet: false,
             bytes: 0,
         }
     }
 
-    // With one object more; room is left for every object that a pump can have.
-    pub fn look(self, pair: Pair, object: Object) -> Sight
+    // With one object more; a u16 holds the bytes of as many entries as a pump can have objects.
+    pub fn add(self, pair: Pair, object: Object) -> Standing
         requires { ⌜ self .bytes ≤ 1275 ⌝ }
-        ensures { λ r. ⌜ ((o : ℕ) → r ≡ seen o pair object self) ⌝ }
+        ensures { λ r. ⌜ ((o : ℕ) → r ≡ standingWith o pair object self) ⌝ }
     {
-        Sight {
+        Standing {
             doomed: either(self.doomed, pair.spoiled),
             unmet: either(self.unmet, misses(pair, object)),
             bytes: self.bytes + entry_bytes(pair),
@@ -53,7 +54,7 @@ impl Sight {
     }
 }
 
-// An object that is not declared has no entry.
+// R27: how many bytes the pair's entry has; only a declared object has one.
 fn entry_bytes(pair: Pair) -> u16
     ensures { λ r. ⌜ ((o : ℕ) → r ≡ length (entryOf o pair)) × (r ≤ 5) ⌝ }
 {
@@ -63,7 +64,7 @@ fn entry_bytes(pair: Pair) -> u16
     0
 }
 
-// Whether the object is declared and does not meet its terminal need.
+// R9: whether the need is missed on this object.
 fn misses(pair: Pair, object: Object) -> bool
     ensures { λ r. ⌜ r ≡ misses pair object ⌝ }
 {
@@ -74,16 +75,16 @@ fn misses(pair: Pair, object: Object) -> bool
     !pair.private.meets_terminal_need(terminal)
 }
 
-// Commit: 1, 5, 9, 10, 11. Rollback: 1, 5, 10, 11.
+// R21: the rules of a commit and of a rollback.
 pub fn verdict(
     size: Size,
     slot: SlotNo,
     rollback: bool,
     live: bool,
-    sight: Sight,
+    standing: Standing,
     short: bool,
 ) -> Verdict
-    ensures { λ r. ⌜ r ≡ decide (endRules size rollback (slot .0) live (sight .doomed) (sight .unmet) short) Refuses Passes ⌝ }
+    ensures { λ r. ⌜ r ≡ decide (endRules size rollback (slot .0) live (standing .doomed) (standing .unmet) short) Refuses Passes ⌝ }
 {
     if size.slots <= slot.0 {
         return Verdict::Refuses(Refusal::BadSlot);
@@ -92,15 +93,15 @@ pub fn verdict(
         return Verdict::Refuses(Refusal::Idle);
     }
     if rollback {
-        return last(sight.unmet, short);
+        return last(standing.unmet, short);
     }
-    if sight.doomed {
+    if standing.doomed {
         return Verdict::Refuses(Refusal::Doomed);
     }
-    last(sight.unmet, short)
+    last(standing.unmet, short)
 }
 
-// The last rules of both: 10, 11.
+// R21: the last two rules, which both have.
 fn last(unmet: bool, short: bool) -> Verdict
     ensures { λ r. ⌜ r ≡ decide (Wait when unmet ∷ NoRoom when short ∷ []) Refuses Passes ⌝ }
 {
@@ -113,6 +114,7 @@ fn last(unmet: bool, short: bool) -> Verdict
     Verdict::Passes
 }
 
+// R27: which record the end writes.
 pub fn fields(rollback: bool, tick: u32, slot: SlotNo) -> Fields
     ensures { λ r. ⌜ r ≡ endFields rollback tick (slot .0) ⌝ }
 {
@@ -122,7 +124,7 @@ pub fn fields(rollback: bool, tick: u32, slot: SlotNo) -> Fields
     Fields::Committed { tick, slot }
 }
 
-// Whether the end puts the saved word of the pair back.
+// R17: whether the end puts the saved word of the pair back.
 fn puts_back(rollback: bool, pair: Pair) -> bool
     ensures { λ r. ⌜ r ≡ (rollback && restores pair) ⌝ }
 {
@@ -132,7 +134,7 @@ fn puts_back(rollback: bool, pair: Pair) -> bool
     pair.restores()
 }
 
-// What an end makes of an object: a rollback restores its word before.
+// R16, R17: the object behind an end.
 pub fn object(slots: u8, rollback: bool, pair: Pair, object: Object) -> Object
     ensures { λ r. ⌜ r ≡ endedObject slots rollback pair object ⌝ }
 {
@@ -145,7 +147,7 @@ pub fn object(slots: u8, rollback: bool, pair: Pair, object: Object) -> Object
     object.end(pair, slots)
 }
 
-// How many slots are asked whether the end spoils them: all where it restores the object, else none.
+// R17: how many slots are asked whether they are spoiled: all where the end puts a word back, else none.
 pub fn spread(slots: u8, rollback: bool, pair: Pair) -> u8
     ensures { λ r. ⌜ r ≡ spreadOf slots rollback pair ⌝ }
 {

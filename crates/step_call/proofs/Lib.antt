@@ -1,2 +1,2 @@
-pub mod Seated
-pub mod Acted
+pub mod InRange
+pub mod Looked

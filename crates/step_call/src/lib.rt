@@ -1,8 +1,9 @@
-// A call and a release in place: look, decide, store.
+// A call (R13) and a release (R15) in place: look, decide, store.
 ghost use Prim.Native.Nat.{_<_};
 ghost use Rattle.rules.specs.Steps.{callStep, releaseStep};
 ghost use Rattle.tables.specs.Places.{Fits};
-ghost use Rattle.tables.specs.Views.{view, Steps};
+ghost use Rattle.tables.specs.Views.{view};
+ghost use Rattle.tables.specs.Serving.Changes.{Steps};
 use answers::Answer;
 use answers::Verdict;
 use counters::ObjectNo;
@@ -24,8 +25,8 @@ pub fn call(
     requires { ⌜ Fits size (now words) (now bytes) (now marks) × (0 < size .slots) × (0 < size .objects) ⌝ }
     ensures { λ r. ⌜ Steps size (now (words .exit)) (now (bytes .exit)) (now (marks .exit)) r (callStep size (view size (now (words .entry)) (now (bytes .entry)) (now (marks .entry))) (slot .0) (number .0) kind argument) ⌝ }
 {
-    let s = places::seat(slot.0, size.slots);
-    let o = places::seat(number.0, size.objects);
+    let s = places::keep_in_range(slot.0, size.slots);
+    let o = places::keep_in_range(number.0, size.objects);
     let live = tables::live_at(marks, size, s);
     let doomed = columns::doomed(marks, size, s);
     let pair = tables::pair_at(words, bytes, marks, size, s, o);
@@ -60,8 +61,8 @@ pub fn release(
     requires { ⌜ Fits size (now words) (now bytes) (now marks) × (0 < size .slots) × (0 < size .objects) ⌝ }
     ensures { λ r. ⌜ Steps size (now (words .exit)) (now (bytes .entry)) (now (marks .entry)) r (releaseStep size (view size (now (words .entry)) (now (bytes .entry)) (now (marks .entry))) (slot .0) (number .0)) ⌝ }
 {
-    let s = places::seat(slot.0, size.slots);
-    let o = places::seat(number.0, size.objects);
+    let s = places::keep_in_range(slot.0, size.slots);
+    let o = places::keep_in_range(number.0, size.objects);
     let live = tables::live_at(marks, size, s);
     let pair = tables::pair_at(words, bytes, marks, size, s, o);
     let object = tables::object_at(words, size, o);

@@ -17,9 +17,9 @@ use Rattle.rules.specs.Walks.{eachBelow}
 use Rattle.rules.specs.Effects.{spoilOne}
 use Rattle.rules.proofs.Picking.{pick-seen}
 use Rattle.rules.proofs.Stores.{Sized, place-apart, pair-elsewhere}
-use Rattle.leaf_end.specs.Ends.{endedObject, spreadOf, endCleared}
+use Rattle.leaf_end.specs.Serving.Ends.{endedObject, spreadOf, endCleared}
 use Rattle.leaf_end.proofs.EndTurns.{turn-ended}
-use Rattle.tables.specs.Views.{spoilCaller}
+use Rattle.tables.specs.Serving.Changes.{spoilCaller}
 
 module _ (z : Size) (s o : ℕ) (object : o < z .objects) where
   cleared : State → State

@@ -1,14 +1,12 @@
--- An end whole: what was seen, decided, written and settled is the rules' step.
+-- An end whole: what was looked at, decided, written and settled is the rules' step.
 use Prim.Native.Nat.{ℕ, _+_, _≤_, _<_}
 use mathlib.Core.Bool.{Bool, true, false}
 use mathlib.Core.List.{List, _++_}
-use mathlib.Core.Logic.{_⊎_, inl, inr}
 use mathlib.Core.Path.{_≡_, refl, sym, ap, _∙_}
 use native.Mathlib.Omega.{arith}
 use lib.ListN.{length, drop}
 use lib.Dec.{leb, ltb}
 use borrow.Author.Tests.{leb-false, ltb-false}
-use Rattle.answers.proofs.Deciding.{Accepts, Refuses as RefusesBy, decided}
 use Rattle.answers.specs.Numbers.{accepted, refused}
 use Rattle.answers.specs.Order.{Rule, decide}
 use Rattle.answers.specs.declared.Refusal.{Refusal}
@@ -20,11 +18,11 @@ use Rattle.rules.specs.Walks.{eachBelow}
 use Rattle.rules.specs.Refusing.{doomed, unmet, endRules}
 use Rattle.rules.specs.Effects.{endEntries, endFields, endRecord, endTurn, endEffect, clearSlot}
 use Rattle.rules.specs.Steps.{Outcome, unchanged, beside, endStep}
-use Rattle.leaf_end.specs.Sights.{sightOf}
-use Rattle.leaf_end.specs.declared.Sight.{Sight}
+use Rattle.leaf_end.specs.Serving.Standings.{standingOf}
+use Rattle.leaf_end.specs.declared.Standing.{Standing}
 use Rattle.answers.specs.declared.Verdict.the-variants.{Passes, Refuses}
-use Rattle.answers.proofs.Saying.{when-passes, when-refuses}
-use Rattle.leaf_end.specs.Ends.{endCleared}
+use Rattle.answers.proofs.Saying.{none-holds, when-passes, when-refuses}
+use Rattle.leaf_end.specs.Serving.Ends.{endCleared}
 use Rattle.leaf_end.proofs.EndClears.{cleared-behind}
 
 -- the head of an end's record, whichever end it is
@@ -39,35 +37,35 @@ end-front false tick slot = refl
 -- an end that passes has its slot in range, and room
 passing : (z : Size) (rollback : Bool) (slot : ℕ) (live is-doomed is-unmet short : Bool)
     → decide (endRules z rollback slot live is-doomed is-unmet short) Refuses Passes ≡ Passes → (slot < z .slots) × (short ≡ false)
-passing z rollback slot live is-doomed is-unmet short e = go rollback (decided (endRules z rollback slot live is-doomed is-unmet short)) e
-  where
-    go : (b : Bool) → Accepts (endRules z b slot live is-doomed is-unmet short) ⊎ RefusesBy (endRules z b slot live is-doomed is-unmet short)
-        → decide (endRules z b slot live is-doomed is-unmet short) Refuses Passes ≡ Passes → (slot < z .slots) × (short ≡ false)
-    go true (inl a) p = (leb-false _ _ (a .passes .0), a .passes .1 .1 .1 .0)
-    go false (inl a) p = (leb-false _ _ (a .passes .0), a .passes .1 .1 .1 .1 .0)
-    go true (inr r) p =
-        let clash : _≡_ {A = ℕ} 0 1 = cc (r .gives Refuses Passes) in
-        absurd (omega arith)
-    go false (inr r) p =
-        let clash : _≡_ {A = ℕ} 0 1 = cc (r .gives Refuses Passes) in
-        absurd (omega arith)
+passing z true slot live is-doomed is-unmet short e =
+    let none = none-holds (endRules z true slot live is-doomed is-unmet short) e in
+    (leb-false _ _ (none .0), none .1 .1 .1 .0)
+passing z false slot live is-doomed is-unmet short e =
+    let none = none-holds (endRules z false slot live is-doomed is-unmet short) e in
+    (leb-false _ _ (none .0), none .1 .1 .1 .1 .0)
 
-module _ (z : Size) (rollback : Bool) (t : State) (slot s tick : ℕ) (buffer : List ℕ) (right-slot : slot < z .slots → s ≡ slot)
-    (live : Bool) (sight : Sight) (short : Bool) (is-live : live ≡ liveAt t s) (is-sight : sight ≡ sightOf z t s)
-    (is-short : short ≡ ltb (length buffer) (10 + sight .bytes)) where
+-- what is looked at in t: the slot of the event where it is in range, how it stands, and whether the buffer is too short
+pub record LookedAtSlot (z : Size) (t : State) (slot s : ℕ) (buffer : List ℕ) (live : Bool) (standing : Standing) (short : Bool) : Type 0 where
+  pub right-slot : slot < z .slots → s ≡ slot
+  pub is-live : live ≡ liveAt t s
+  pub is-standing : standing ≡ standingOf z t s
+  pub is-short : short ≡ ltb (length buffer) (10 + standing .bytes)
+
+module _ {z : Size} {t : State} {slot s : ℕ} {buffer : List ℕ} {live : Bool} {standing : Standing} {short : Bool}
+    (looked : LookedAtSlot z t slot s buffer live standing short) (rollback : Bool) (tick : ℕ) where
   -- the rules as the slot that is looked at has them
   rulesAt : ℕ → List Rule
   rulesAt r = endRules z rollback slot (liveAt t r) (doomed z t r) (unmet z t r) (ltb (length buffer) (10 + length (endEntries z r t)))
 
-  said : endRules z rollback slot live (sight .doomed) (sight .unmet) short ≡ rulesAt s
+  said : endRules z rollback slot live (standing .doomed) (standing .unmet) short ≡ rulesAt s
   unfolding rulesAt
   said =
-      (λ i. endRules z rollback slot (is-live i) (sight .doomed) (sight .unmet) (is-short i))
-      ∙ (λ i. endRules z rollback slot (liveAt t s) (is-sight i .doomed) (is-sight i .unmet) (ltb (length buffer) (10 + is-sight i .bytes)))
+      (λ i. endRules z rollback slot (looked .is-live i) (standing .doomed) (standing .unmet) (looked .is-short i))
+      ∙ (λ i. endRules z rollback slot (liveAt t s) (looked .is-standing i .doomed) (looked .is-standing i .unmet) (ltb (length buffer) (10 + looked .is-standing i .bytes)))
 
-  seated : {A : Type 0} (refusing : Refusal → A) (made : A) → decide (rulesAt s) refusing made ≡ decide (rulesAt slot) refusing made
+  same-verdict : {A : Type 0} (refusing : Refusal → A) (made : A) → decide (rulesAt s) refusing made ≡ decide (rulesAt slot) refusing made
   unfolding rulesAt
-  seated refusing made = go (leb (z .slots) slot) refl
+  same-verdict refusing made = go (leb (z .slots) slot) refl
     where
       past : (b : Bool) → leb (z .slots) slot ≡ true
           → decide (endRules z b slot (liveAt t s) (doomed z t s) (unmet z t s) (ltb (length buffer) (10 + length (endEntries z s t)))) refusing made
@@ -77,7 +75,7 @@ module _ (z : Size) (rollback : Bool) (t : State) (slot s tick : ℕ) (buffer : 
 
       go : (b : Bool) → leb (z .slots) slot ≡ b → decide (rulesAt s) refusing made ≡ decide (rulesAt slot) refusing made
       go true e = past rollback e
-      go false e = ap (λ (r : ℕ). decide (rulesAt r) refusing made) (right-slot (leb-false _ _ e))
+      go false e = ap (λ (r : ℕ). decide (rulesAt r) refusing made) (looked .right-slot (leb-false _ _ e))
 
   made : Outcome
   made =
@@ -96,26 +94,26 @@ module _ (z : Size) (rollback : Bool) (t : State) (slot s tick : ℕ) (buffer : 
       (λ refusal. beside buffer (unchanged t refusal)) made)
       (sym (end-length rollback tick slot (endEntries z slot t)))
 
-  pub end-refused : (refusal : Refusal) → decide (endRules z rollback slot live (sight .doomed) (sight .unmet) short) Refuses Passes ≡ Refuses refusal
+  pub end-refused : (refusal : Refusal) → decide (endRules z rollback slot live (standing .doomed) (standing .unmet) short) Refuses Passes ≡ Refuses refusal
       → beside buffer (unchanged t refusal) ≡ endStep z rollback t slot tick buffer
   unfolding rulesAt made
   end-refused refusal e =
       sym (when-refuses (rulesAt s) refusal (ap (λ (rules : List Rule). decide rules Refuses Passes) (sym said) ∙ e) (λ x. beside buffer (unchanged t x)) made)
-      ∙ seated (λ x. beside buffer (unchanged t x)) made
+      ∙ same-verdict (λ x. beside buffer (unchanged t x)) made
       ∙ stated
 
-  module _ (e : decide (endRules z rollback slot live (sight .doomed) (sight .unmet) short) Refuses Passes ≡ Passes) where
-    pub has-room : 10 + sight .bytes ≤ length buffer
-    has-room = ltb-false (length buffer) (10 + sight .bytes) (sym is-short ∙ passing z rollback slot _ _ _ _ e .1)
+  module _ (e : decide (endRules z rollback slot live (standing .doomed) (standing .unmet) short) Refuses Passes ≡ Passes) where
+    pub has-room : 10 + standing .bytes ≤ length buffer
+    has-room = ltb-false (length buffer) (10 + standing .bytes) (sym (looked .is-short) ∙ passing z rollback slot _ _ _ _ e .1)
 
     pub end-passed : (t₂ : State) (written : List ℕ) → t₂ ≡ eachBelow (z .objects) (λ o u. endCleared z rollback s o u) t
-        → written ≡ recordOf (endFields rollback tick slot) (endEntries z s t) ++ drop (10 + sight .bytes) buffer
-        → record { tables = withLive t₂ s false; reply = accepted (10 + sight .bytes); buffer = written } ≡ endStep z rollback t slot tick buffer
+        → written ≡ recordOf (endFields rollback tick slot) (endEntries z s t) ++ drop (10 + standing .bytes) buffer
+        → record { tables = withLive t₂ s false; reply = accepted (10 + standing .bytes); buffer = written } ≡ endStep z rollback t slot tick buffer
     unfolding rulesAt made
     end-passed t₂ written settled is-written =
-        let same : s ≡ slot = right-slot (passing z rollback slot _ _ _ _ e .0) in
-        let long : 10 + sight .bytes ≡ length (endRecord z rollback slot tick t) =
-        (λ i. 10 + is-sight i .bytes) ∙ (λ i. 10 + length (endEntries z (same i) t)) ∙ sym (end-length rollback tick slot (endEntries z slot t)) in
+        let same : s ≡ slot = looked .right-slot (passing z rollback slot _ _ _ _ e .0) in
+        let long : 10 + standing .bytes ≡ length (endRecord z rollback slot tick t) =
+        (λ i. 10 + looked .is-standing i .bytes) ∙ (λ i. 10 + length (endEntries z (same i) t)) ∙ sym (end-length rollback tick slot (endEntries z slot t)) in
         let tables : withLive t₂ s false ≡ endEffect z rollback slot t =
         (λ i. withLive ((settled ∙ cleared-behind z rollback s (z .objects) t (omega arith)) i) s false)
         ∙ (λ i. withLive (clearSlot z (same i) (eachBelow (z .objects) (λ o u. endTurn z rollback (same i) o u) t)) (same i) false) in
@@ -123,5 +121,5 @@ module _ (z : Size) (rollback : Bool) (t : State) (slot s tick : ℕ) (buffer : 
         is-written ∙ (λ i. recordOf (endFields rollback tick slot) (endEntries z (same i) t) ++ drop (long i) buffer) in
         (λ i. record { tables = tables i; reply = accepted (long i); buffer = record-is i })
         ∙ sym (when-passes (rulesAt s) (ap (λ (rules : List Rule). decide rules Refuses Passes) (sym said) ∙ e) (λ x. beside buffer (unchanged t x)) made)
-        ∙ seated (λ x. beside buffer (unchanged t x)) made
+        ∙ same-verdict (λ x. beside buffer (unchanged t x)) made
         ∙ stated

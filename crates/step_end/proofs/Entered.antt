@@ -16,7 +16,7 @@ use Rattle.rules.specs.Tables.{State, pairAt}
 use Rattle.rules.specs.Walks.{joinBelow}
 use Rattle.rules.specs.Effects.{entryOf}
 use Rattle.rules.proofs.Walking.{join-zero, join-next, join-suc}
-use Rattle.leaf_end.proofs.Seeing.{entriesTo, entry-few}
+use Rattle.leaf_end.proofs.Standings.{entriesTo, entry-few}
 
 -- an entry's bytes
 abbrev fiveBytes : ℕ → ℕ → List ℕ

@@ -1,12 +1,13 @@
-// Commit and rollback in place: look at every object, decide, write the record, and give every object its turn.
+// Commit (R16) and rollback (R17) in place: look at every object, decide, write the record, and settle every object.
 ghost use Prim.Native.Nat.{_*_, _≤_, _<_};
 ghost use mathlib.Core.Path.{_≡_};
-ghost use Rattle.leaf_end.specs.Ends.{endCleared};
+ghost use Rattle.leaf_end.specs.Serving.Ends.{endCleared};
 ghost use Rattle.rules.specs.Steps.{endStep};
 ghost use Rattle.rules.specs.Walks.{eachBelow};
-ghost use Rattle.leaf_end.specs.Sights.{sightOf};
+ghost use Rattle.leaf_end.specs.Serving.Standings.{standingOf};
 ghost use Rattle.tables.specs.Places.{Fits};
-ghost use Rattle.tables.specs.Views.{view, Become, Ends};
+ghost use Rattle.tables.specs.Views.{view};
+ghost use Rattle.tables.specs.Serving.Changes.{Become, Ends};
 
 mod writing;
 
@@ -14,7 +15,7 @@ use answers::Answer;
 use answers::Verdict;
 use counters::Size;
 use counters::SlotNo;
-use leaf_end::Sight;
+use leaf_end::Standing;
 use objects::Pair;
 use tables::columns;
 use tables::places;
@@ -32,11 +33,11 @@ pub fn end(
     requires { ⌜ Fits size (now words) (now bytes) (now marks) × (0 < size .slots) × (size .objects ≤ 102) ⌝ }
     ensures { λ r. ⌜ Ends size (now (words .exit)) (now (bytes .exit)) (now (marks .exit)) r (now (buf .exit)) (endStep size rollback (view size (now (words .entry)) (now (bytes .entry)) (now (marks .entry))) (slot .0) tick (now (buf .entry))) ⌝ }
 {
-    let s = places::seat(slot.0, size.slots);
+    let s = places::keep_in_range(slot.0, size.slots);
     let live = tables::live_at(marks, size, s);
-    let sight = look(words, bytes, marks, size, s);
-    let short = buf.len() < 10 + sight.bytes as usize;
-    match leaf_end::verdict(size, slot, rollback, live, sight, short) {
+    let standing = look(words, bytes, marks, size, s);
+    let short = buf.len() < 10 + standing.bytes as usize;
+    match leaf_end::verdict(size, slot, rollback, live, standing, short) {
         Verdict::Refuses(refusal) => Answer::Refused(refusal),
         Verdict::Passes => {
             writing::record(
@@ -48,32 +49,32 @@ pub fn end(
                 rollback,
                 tick,
                 slot,
-                sight.bytes,
+                standing.bytes,
                 buf,
             );
             settle(words, bytes, marks, size, s, rollback);
             tables::store_live(marks, size, s, false);
-            Answer::Accepted(10 + sight.bytes as u32)
+            Answer::Accepted(10 + standing.bytes as u32)
         }
     }
 }
 
-// What the end sees of its slot's objects.
-fn look(words: &[u32], bytes: &[u8], marks: &[bool], size: Size, s: u32) -> Sight
+// How the slot stands by all its objects.
+fn look(words: &[u32], bytes: &[u8], marks: &[bool], size: Size, s: u32) -> Standing
     requires { ⌜ Fits size (now words) (now bytes) (now marks) × (s < size .slots) ⌝ }
-    ensures { λ r. ⌜ (r ≡ sightOf size (view size (now (words .entry)) (now (bytes .entry)) (now (marks .entry))) s) × (r .bytes ≤ 5 * size .objects) ⌝ }
+    ensures { λ r. ⌜ (r ≡ standingOf size (view size (now (words .entry)) (now (bytes .entry)) (now (marks .entry))) s) × (r .bytes ≤ 5 * size .objects) ⌝ }
 {
-    let mut sight = Sight::none();
+    let mut standing = Standing::of_none();
     let mut o: u32 = 0;
     while o < size.objects as u32 {
         let pair = tables::pair_at(words, bytes, marks, size, s, o);
-        sight = sight.look(pair, tables::object_at(words, size, o));
+        standing = standing.add(pair, tables::object_at(words, size, o));
         o = o + 1;
     }
-    sight
+    standing
 }
 
-// Each object has its turn.
+// Each object is settled.
 fn settle(
     words: &mut [u32],
     bytes: &mut [u8],
@@ -92,8 +93,8 @@ fn settle(
     }
 }
 
-// The turn of one object. The slot is cleared turn by turn, since no later turn reads this pair; so the slot that ends
-// may be spoiled with the others that have called the object.
+// One object. The slot's pair on it is cleared at once, since no later object reads it; so the slot that ends may be
+// spoiled with the others that have called the object.
 fn settle_one(
     words: &mut [u32],
     bytes: &mut [u8],

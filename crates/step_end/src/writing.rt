@@ -1,4 +1,4 @@
-// The record of an end, written straight into the lent buffer.
+// R27: the record of an end, written straight into the lent buffer.
 ghost use Prim.Native.Nat.{_+_, _≤_, _<_};
 ghost use mathlib.Core.List.{_++_};
 ghost use mathlib.Core.Path.{_≡_};

@@ -9,7 +9,8 @@ ghost use Rattle.rules.specs.Tables.{freshTables};
 ghost use Rattle.rules.specs.Walks.{eachBelow};
 ghost use Rattle.leaf_start.specs.Listed.{ListedBelow};
 ghost use Rattle.tables.specs.Places.{wordsLong, Fits};
-ghost use Rattle.tables.specs.Views.{view, Become, WordsBecome, Steps};
+ghost use Rattle.tables.specs.Views.{view};
+ghost use Rattle.tables.specs.Serving.Changes.{Become, WordsBecome, Steps};
 use answers::Answer;
 use answers::Verdict;
 use counters::Size;
@@ -30,7 +31,7 @@ pub fn start(
     requires { ⌜ Fits size (now words) (now bytes) (now marks) × (0 < size .slots) ⌝ }
     ensures { λ r. ⌜ Steps size (now (words .exit)) (now (bytes .exit)) (now (marks .exit)) r (startStep size (view size (now (words .entry)) (now (bytes .entry)) (now (marks .entry))) (slot .0) (now (list .entry))) ⌝ }
 {
-    let s = places::seat(slot.0, size.slots);
+    let s = places::keep_in_range(slot.0, size.slots);
     match leaf_start::verdict(size, slot, tables::live_at(marks, size, s), list) {
         Verdict::Refuses(refusal) => Answer::Refused(refusal),
         Verdict::Passes => {

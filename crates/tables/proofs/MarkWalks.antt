@@ -16,7 +16,8 @@ use Rattle.rules.specs.Walks.{anyBelow, eachBelow}
 use Rattle.rules.proofs.Stores.{place-inside}
 use Rattle.rules.proofs.Walking.{any-agrees, each-next}
 use Rattle.tables.specs.Places.{privatePlace, supremumPlace, declaredPlace, calledPlace, spoiledPlace, marksLong}
-use Rattle.tables.specs.Views.{cell, mark, pairFrom, objectsOf, liveOf, pairsOf, view, spoilCaller, MarksBecome}
+use Rattle.tables.specs.Views.{cell, mark, pairFrom, objectsOf, liveOf, pairsOf, view}
+use Rattle.tables.specs.Serving.Changes.{spoilCaller, MarksBecome}
 use Rattle.tables.proofs.Products.{row-next}
 use Rattle.tables.proofs.Tabulated.{tab-alike, tab-stored}
 use Rattle.tables.proofs.Viewing.{live-seen, pair-seen}

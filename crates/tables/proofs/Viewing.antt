@@ -13,7 +13,8 @@ use Rattle.objects.specs.declared.Pair.{Pair}
 use Rattle.rules.specs.Tables.{State, noObject, objectAt, liveAt, pairAt, withObject, withLive, withPair}
 use Rattle.rules.proofs.Stores.{Sized, place-inside}
 use Rattle.tables.specs.Places.{objectPlace, privatePlace, supremumPlace, declaredPlace, calledPlace, spoiledPlace, wordsLong, bytesLong, marksLong, Fits}
-use Rattle.tables.specs.Views.{tabulate, cell, mark, objectFrom, pairFrom, view, Become}
+use Rattle.tables.specs.Views.{tabulate, cell, mark, objectFrom, pairFrom, view}
+use Rattle.tables.specs.Serving.Changes.{Become}
 use Rattle.tables.proofs.Tabulated.{tab-get, tab-length, tab-alike, tab-stored}
 use Rattle.tables.proofs.Stored.{two, two-beside, two-long, two-first, two-second, four, four-beside, four-long, four-first, four-second, four-third, four-fourth, marked, marked-beside, marked-long, marked-first, marked-second, marked-third}
 

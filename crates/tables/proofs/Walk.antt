@@ -9,7 +9,8 @@ use Rattle.rules.proofs.Walking.{each-zero, each-next}
 use Rattle.rules.specs.Tables.{State}
 use Rattle.rules.specs.Walks.{eachBelow}
 use Rattle.tables.specs.Places.{Fits}
-use Rattle.tables.specs.Views.{view, Become}
+use Rattle.tables.specs.Views.{view}
+use Rattle.tables.specs.Serving.Changes.{Become}
 
 -- what the loop keeps: the numbers that it has passed had their turn
 pub record Walk (z : Size) (turn : ℕ → State → State) (limit : ℕ) (w₀ b₀ : List ℕ) (k₀ : List Bool) (at : ℕ) (w b : List ℕ) (k : List Bool) : Type 0 where

@@ -1,19 +1,13 @@
--- The rules' tables that three lists stand for, and what a step in place gives.
+-- The rules' tables (R4) that three lists stand for.
 use Prim.Native.Nat.{ℕ, zero, suc, _+_, _*_}
-use mathlib.Core.Bool.{Bool, false, _&&_}
+use mathlib.Core.Bool.{Bool, false}
 use mathlib.Core.List.{List, [], _∷_}
-use mathlib.Core.Path.{_≡_}
-use lib.ListN.{length, getD}
-use Rattle.answers.specs.Numbers.{replyOf}
-use Rattle.answers.specs.Order.{pick}
-use Rattle.answers.specs.declared.Answer.{Answer}
+use lib.ListN.{getD}
 use Rattle.counters.specs.Sizes.{Size}
-use Rattle.objects.specs.Places.{spoiledPair}
 use Rattle.objects.specs.declared.Object.{Object}
 use Rattle.objects.specs.declared.Pair.{Pair}
-use Rattle.rules.specs.Tables.{State, liveAt, pairAt, withPair}
-use Rattle.rules.specs.Steps.{Stepping, Outcome}
-use Rattle.tables.specs.Places.{objectPlace, privatePlace, supremumPlace, declaredPlace, calledPlace, spoiledPlace, wordsLong, marksLong, Fits}
+use Rattle.rules.specs.Tables.{State}
+use Rattle.tables.specs.Places.{objectPlace, privatePlace, supremumPlace, declaredPlace, calledPlace, spoiledPlace}
 
 -- the list of what a function says of every number below a bound
 unfoldable pub tabulate : {A : Type 0} → ℕ → (ℕ → A) → List A
@@ -48,7 +42,7 @@ pairFrom z w b k i =
       saved = cell w (privatePlace z i + 1);
     }
 
--- the tables of the rules
+-- R4: the tables of the rules
 abbrev pub objectsOf : Size → List ℕ → List Object
 objectsOf z w = tabulate (z .objects) (λ o. objectFrom w o)
 
@@ -60,25 +54,3 @@ pairsOf z w b k = tabulate (z .slots * z .objects) (λ i. pairFrom z w b k i)
 
 abbrev pub view : Size → List ℕ → List ℕ → List Bool → State
 view z w b k = record { objects = objectsOf z w; live = liveOf z k; pairs = pairsOf z w b k }
-
--- what a function makes of the lists that it is lent, by what becomes of the tables: of all three, of the words alone, of the marks alone
-abbrev pub Become : Size → List ℕ → List ℕ → List Bool → List ℕ → List ℕ → List Bool → (State → State) → Type 0
-Become z w b k w′ b′ k′ change = Fits z w′ b′ k′ × (view z w′ b′ k′ ≡ change (view z w b k))
-
-abbrev pub WordsBecome : Size → List ℕ → List ℕ → (State → State) → Type 0
-WordsBecome z w w′ change = (length w′ ≡ wordsLong z) × ((b : List ℕ) (k : List Bool) → view z w′ b k ≡ change (view z w b k))
-
-abbrev pub MarksBecome : Size → List Bool → List Bool → (State → State) → Type 0
-MarksBecome z k k′ change = (length k′ ≡ marksLong z) × ((w b : List ℕ) → view z w b k′ ≡ change (view z w b k))
-
--- what a step leaves and answers, by the rules' step
-abbrev pub Steps : Size → List ℕ → List ℕ → List Bool → Answer → Stepping → Type 0
-Steps z w b k answer stepping = Fits z w b k × (record { tables = view z w b k; reply = replyOf answer } ≡ stepping)
-
--- the same with the buffer that was lent
-abbrev pub Ends : Size → List ℕ → List ℕ → List Bool → Answer → List ℕ → Outcome → Type 0
-Ends z w b k answer buffer outcome = Fits z w b k × (record { tables = view z w b k; reply = replyOf answer; buffer = buffer } ≡ outcome)
-
--- a live slot that has called an object, be it the one that ends, is spoiled on it
-abbrev pub spoilCaller : Size → ℕ → ℕ → State → State
-spoilCaller z o r t = pick (liveAt t r && pairAt z t r o .called) (withPair z t r o (spoiledPair (pairAt z t r o))) t

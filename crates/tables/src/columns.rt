@@ -8,11 +8,12 @@ ghost use Rattle.answers.specs.Order.{pick};
 ghost use Rattle.rules.specs.Refusing.{doomed};
 ghost use Rattle.rules.specs.Walks.{eachBelow};
 ghost use Rattle.tables.specs.Places.{marksLong};
-ghost use Rattle.tables.specs.Views.{view, spoilCaller, MarksBecome};
+ghost use Rattle.tables.specs.Views.{view};
+ghost use Rattle.tables.specs.Serving.Changes.{spoilCaller, MarksBecome};
 use crate::places;
 use counters::Size;
 
-// Whether the slot is spoiled on any object.
+// R10: whether the slot is doomed.
 pub fn doomed(marks: &[bool], size: Size, s: u32) -> bool
     requires { ⌜ (length (now marks) ≡ marksLong size) × (s < size .slots) × (0 < size .objects) ⌝ }
     ensures { λ r. ⌜ ((w b : List ℕ) → r ≡ doomed size (view size w b (now (marks .entry))) s) ⌝ }
@@ -27,7 +28,7 @@ pub fn doomed(marks: &[bool], size: Size, s: u32) -> bool
     found
 }
 
-// Every live slot that has called object o becomes spoiled on it, of the first so many slots.
+// R17: of the first so many slots, each that is live and has called object o is spoiled on it.
 pub fn spoil_callers(marks: &mut [bool], size: Size, o: u32, spread: u8)
     requires { ⌜ (length (now marks) ≡ marksLong size) × (o < size .objects) × (spread ≤ size .slots) ⌝ }
     ensures { λ _. ⌜ MarksBecome size (now (marks .entry)) (now (marks .exit)) (eachBelow spread (λ r u. spoilCaller size o r u)) ⌝ }
@@ -44,7 +45,7 @@ pub fn spoil_callers(marks: &mut [bool], size: Size, o: u32, spread: u8)
     }
 }
 
-// The spoiled mark of a slot on an object that a rollback restores.
+// R17: the spoiled mark of a slot on an object whose word is put back.
 fn spoil(live: bool, called: bool, spoiled: bool) -> bool
     ensures { λ r. ⌜ r ≡ pick (live && called) true spoiled ⌝ }
 {

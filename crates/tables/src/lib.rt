@@ -1,11 +1,12 @@
-// The tables in memory that is lent: three lists, of words, of bytes and of marks; a look and a store at each place.
+// The tables of R4 in memory that is lent: three lists, of words, of bytes and of marks; a look and a store at each place.
 ghost use Prim.Native.Nat.{_<_};
 ghost use mathlib.Core.Bool.{false};
 ghost use mathlib.Core.Path.{_≡_};
 ghost use lib.ListN.{length, getD};
 ghost use Rattle.rules.specs.Tables.{noObject, pairAt, withObject, withLive, withPair};
 ghost use Rattle.tables.specs.Places.{wordsLong, marksLong, Fits};
-ghost use Rattle.tables.specs.Views.{objectsOf, liveOf, view, Become, WordsBecome, MarksBecome};
+ghost use Rattle.tables.specs.Views.{objectsOf, liveOf, view};
+ghost use Rattle.tables.specs.Serving.Changes.{Become, WordsBecome, MarksBecome};
 
 pub mod columns;
 pub mod places;

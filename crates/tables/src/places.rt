@@ -4,8 +4,8 @@ ghost use mathlib.Core.Path.{_≡_};
 ghost use Rattle.tables.specs.Places.{privatePlace, declaredPlace, calledPlace, spoiledPlace};
 use counters::Size;
 
-// The place to look at: the number itself, or 0 where it is out of range.
-pub fn seat(number: u8, limit: u8) -> u32
+// R6: a number in range: the number itself, or 0 for one out of range, since no answer depends on what is asked then.
+pub fn keep_in_range(number: u8, limit: u8) -> u32
     requires { ⌜ 0 < limit ⌝ }
     ensures { λ r. ⌜ (r < limit) × (number < limit → r ≡ number) ⌝ }
 {

@@ -27,12 +27,12 @@ idle size false live doomed unmet short slot inside rests = rw (inside, rests)
 returns : tie.Need-returns
 returns c =
     let a = c .before .before .before .args in
-    bad-slot (a .size) (a .rollback) (a .live) (a .sight .doomed) (a .sight .unmet) (a .short) (a .slot .0) (le-leb _ _ (c .if1 .taken))
+    bad-slot (a .size) (a .rollback) (a .live) (a .standing .doomed) (a .standing .unmet) (a .short) (a .slot .0) (le-leb _ _ (c .if1 .taken))
 
 returns-2 : tie.Need-returns-2
 returns-2 c =
     let a = c .before .before .before .before .args in
-    idle (a .size) (a .rollback) (a .live) (a .sight .doomed) (a .sight .unmet) (a .short) (a .slot .0) (lt-leb _ _ (c .before .if1 .left)) (c .if2 .taken)
+    idle (a .size) (a .rollback) (a .live) (a .standing .doomed) (a .standing .unmet) (a .short) (a .slot .0) (lt-leb _ _ (c .before .if1 .left)) (c .if2 .taken)
 
 returns-3 : tie.Need-returns-3
 returns-3 c =

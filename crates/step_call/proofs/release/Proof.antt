@@ -1,10 +1,10 @@
 -- `step_call::release` meets its promise.
 use mathlib.Core.Path.{_≡_, sym, ap, _∙_}
 use Rattle.answers.specs.Numbers.{accepted}
-use Rattle.rules.specs.Tables.{withObject}
+use Rattle.rules.specs.Tables.{State, withObject}
 use Rattle.objects.specs.declared.Object.{Object}
 use Rattle.tables.specs.Views.{view}
-use Rattle.step_call.proofs.Acted.{release-refused, release-passed}
+use Rattle.step_call.proofs.Looked.{LookedAtPair, release-refused, release-passed}
 use borrow.Author.Needs.{needs}
 use Rattle.step_call.proofs.release.Statement.{statement}
 use Rattle.step_call.proofs.release.Tie as tie
@@ -12,30 +12,38 @@ use Rattle.step_call.proofs.release.Tie as tie
 abbrev paired : tie.After-release → tie.After-pair-at
 paired c = c .before .before .before
 
-abbrev seats : tie.After-release → tie.After-seat2
-seats c = paired c .before .before .before
+abbrev in-range : tie.After-release → tie.After-keep-in-range2
+in-range c = paired c .before .before .before
 
 abbrev begin : tie.After-release → tie.Start
-begin c = seats c .before .before .before .before .before
+begin c = in-range c .before .before .before .before .before
+
+abbrev found : tie.After-release → State
+found c = let a = begin c .args in view (a .size) (a .words .now) (a .bytes .now) (a .marks .now)
+
+looked : (c : tie.After-release)
+    → LookedAtPair (begin c .args .size) (found c) (begin c .args .slot .0) (begin c .args .number .0)
+    (in-range c .before .keep-in-range .result) (in-range c .keep-in-range2 .result)
+    (paired c .before .before .live-at .result) (paired c .pair-at .result) (c .before .object-at .result)
+looked c =
+    record {
+      right-slot = in-range c .before .keep-in-range .ensures .1;
+      right-object = in-range c .keep-in-range2 .ensures .1;
+      is-live = paired c .before .before .live-at .ensures;
+      is-pair = paired c .pair-at .ensures;
+      is-object = c .before .object-at .ensures;
+    }
 
 store-object-requires : tie.Need-store-object-requires
 store-object-requires c κs =
     let release = c .before .before .before .before .before in
-    (begin release .pre .0 .0, seats release .seat2 .ensures .0)
+    (begin release .pre .0 .0, in-range release .keep-in-range2 .ensures .0)
 
 returns : tie.Need-returns
 returns c =
     let told = c .before in
     let release = told .before .before in
-    let a = begin release .args in
-    let t = view (a .size) (a .words .now) (a .bytes .now) (a .marks .now) in
-    let seat = seats release .before in (
-      begin release .pre .0,
-      release-refused (a .size) t (a .slot .0) (a .number .0) (seat .seat .result) (seats release .seat2 .result) (seat .seat .ensures .1) (seats release .seat2 .ensures .1)
-          (paired release .before .before .live-at .result) (paired release .pair-at .result) (release .before .object-at .result)
-          (paired release .before .before .live-at .ensures) (paired release .pair-at .ensures) (release .before .object-at .ensures)
-          (told .refusal .given .0 .0) (sym (release .release .ensures) ∙ told .refusal .given .1),
-    )
+    (begin release .pre .0, release-refused (looked release) (told .refusal .given .0 .0) (sym (release .release .ensures) ∙ told .refusal .given .1))
 
 returns-2 : tie.Need-returns-2
 returns-2 c =
@@ -43,16 +51,11 @@ returns-2 c =
     let next = stored .before in
     let told = next .before .before .before in
     let release = told .before .before in
-    let a = begin release .args in
-    let t = view (a .size) (a .words .now) (a .bytes .now) (a .marks .now) in
-    let seat = seats release .before in (
-      (stored .store-object .ensures .0, begin release .pre .0 .1, begin release .pre .0 .2),
-      (λ i. record { tables = stored .store-object .ensures .1 (a .bytes .now) (a .marks .now) i; reply = accepted 0 })
-          ∙ ap (λ (x : Object). record { tables = withObject t (seats release .seat2 .result) x; reply = accepted 0 }) (next .let-go .ensures)
-          ∙ release-passed (a .size) t (a .slot .0) (a .number .0) (seat .seat .result) (seats release .seat2 .result) (seat .seat .ensures .1) (seats release .seat2 .ensures .1)
-          (paired release .before .before .live-at .result) (paired release .pair-at .result) (release .before .object-at .result)
-          (paired release .before .before .live-at .ensures) (paired release .pair-at .ensures) (release .before .object-at .ensures)
-          (sym (release .release .ensures) ∙ told .enum-told .given .1),
+    let start = begin release in (
+      (stored .store-object .ensures .0, start .pre .0 .1, start .pre .0 .2),
+      (λ i. record { tables = stored .store-object .ensures .1 (start .args .bytes .now) (start .args .marks .now) i; reply = accepted 0 })
+          ∙ ap (λ (x : Object). record { tables = withObject (found release) (in-range release .keep-in-range2 .result) x; reply = accepted 0 }) (next .let-go .ensures)
+          ∙ release-passed (looked release) (sym (release .release .ensures) ∙ told .enum-told .given .1),
     )
 
 pub release-spec : {M : Type 1} → statement M

@@ -1,6 +1,6 @@
 -- `step_end::settle` meets its promise.
 use Prim.Native.Nat.{_-_}
-use Rattle.leaf_end.specs.Ends.{endCleared}
+use Rattle.leaf_end.specs.Serving.Ends.{endCleared}
 use Rattle.tables.specs.Views.{view}
 use Rattle.tables.proofs.Walk.{Walk, walk-first, walk-on, walk-done}
 use mathlib.Core.Path.{refl}

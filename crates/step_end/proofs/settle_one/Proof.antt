@@ -3,7 +3,8 @@ use mathlib.Core.Path.{_≡_, ap, _∙_}
 use native.Mathlib.Omega.{arith}
 use Rattle.rules.specs.Tables.{State, withPair}
 use Rattle.rules.specs.Walks.{eachBelow}
-use Rattle.tables.specs.Views.{view, spoilCaller}
+use Rattle.tables.specs.Views.{view}
+use Rattle.tables.specs.Serving.Changes.{spoilCaller}
 use Rattle.tables.proofs.Viewing.{sized}
 use Rattle.step_end.proofs.Callers.{turned, spread-inside}
 use borrow.Author.Needs.{needs}

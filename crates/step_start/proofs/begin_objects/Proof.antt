@@ -4,7 +4,8 @@ use mathlib.Core.Path.{_≡_, sym, ap, _∙_}
 use native.Mathlib.Omega.{arith}
 use Rattle.rules.proofs.Walking.{each-zero, each-next}
 use Rattle.rules.specs.Walks.{eachBelow}
-use Rattle.tables.specs.Views.{view, WordsBecome}
+use Rattle.tables.specs.Views.{view}
+use Rattle.tables.specs.Serving.Changes.{WordsBecome}
 use Rattle.step_start.specs.Beginnings.{beginObject}
 use borrow.Author.Needs.{needs}
 use Rattle.step_start.proofs.begin_objects.Statement.{statement}

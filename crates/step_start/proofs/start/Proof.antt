@@ -8,20 +8,20 @@ use Rattle.step_start.proofs.start.Tie as tie
 abbrev begin : tie.After-verdict → tie.Start
 begin c = c .before .before .before .before .before .before .before .before
 
-abbrev seat : tie.After-verdict → tie.After-seat
-seat c = c .before .before .before
+abbrev ranged : tie.After-verdict → tie.After-keep-in-range
+ranged c = c .before .before .before
 
 judged : (c : tie.After-verdict)
     → Judged (begin c .args .size) (view (begin c .args .size) (begin c .args .words .now) (begin c .args .bytes .now) (begin c .args .marks .now))
-    (begin c .args .slot .0) (seat c .seat .result) (begin c .args .list .now) (c .before .live-at .result) (c .verdict .result)
-judged c = record { right-slot = seat c .seat .ensures .1; is-live = c .before .live-at .ensures; is-verdict = c .verdict .ensures }
+    (begin c .args .slot .0) (ranged c .keep-in-range .result) (begin c .args .list .now) (c .before .live-at .result) (c .verdict .result)
+judged c = record { right-slot = ranged c .keep-in-range .ensures .1; is-live = c .before .live-at .ensures; is-verdict = c .verdict .ensures }
 
 declare-all-requires : tie.Need-declare-all-requires
 declare-all-requires c κs =
     let cleared = c .before .before .before .before .before .before .before .before .before in
     let passes = cleared .before .before .before .before in
     let verdict = passes .before .before in
-    (cleared .clear .ensures .0, seat verdict .seat .ensures .0, list-within (judged verdict) (passes .enum-told .given .1))
+    (cleared .clear .ensures .0, ranged verdict .keep-in-range .ensures .0, list-within (judged verdict) (passes .enum-told .given .1))
 
 returns : tie.Need-returns
 returns c =

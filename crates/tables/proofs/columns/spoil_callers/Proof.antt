@@ -4,7 +4,8 @@ use mathlib.Core.Path.{_≡_, sym, ap, _∙_}
 use native.Mathlib.Omega.{arith}
 use Rattle.rules.specs.Walks.{eachBelow}
 use Rattle.rules.proofs.Walking.{each-zero}
-use Rattle.tables.specs.Views.{view, spoilCaller, MarksBecome}
+use Rattle.tables.specs.Views.{view}
+use Rattle.tables.specs.Serving.Changes.{spoilCaller, MarksBecome}
 use Rattle.tables.proofs.Products.{pairs-few}
 use Rattle.tables.proofs.MarkWalks.{Spoiling, Inside, inside, spoils-on}
 use borrow.Author.Needs.{needs}

@@ -9,15 +9,15 @@ use Rattle.objects.specs.declared.Pair.{Pair}
 use Rattle.rules.specs.Tables.{State, withPair}
 use Rattle.rules.specs.Effects.{endTurn}
 
--- what an end makes of an object: a rollback restores its word first, where it restores it
+-- R16, R17: the object behind an end
 abbrev pub endedObject : ℕ → Bool → Pair → Object → Object
 endedObject slots rollback pair object =
     pick (pair .declared) (ended slots pair (pick (rollback && restores pair) (restored pair object) object)) object
 
--- how many slots a rollback of a pair spoils at most: 'every other live slot that has called this object'
+-- how many slots are asked whether R17 spoils them
 abbrev pub spreadOf : ℕ → Bool → Pair → ℕ
 spreadOf slots rollback pair = pick (rollback && restores pair) slots 0
 
--- the turn of an object, and the slot's pair on it zero
+-- what an end does on one object, and the slot's pair on it zero
 abbrev pub endCleared : Size → Bool → ℕ → ℕ → State → State
 endCleared z rollback s o t = withPair z (endTurn z rollback s o t) s o noPair

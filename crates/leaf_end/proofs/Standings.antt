@@ -1,4 +1,4 @@
--- What the loop keeps that looks at the slot's objects, turn by turn.
+-- What the loop keeps that asks about the slot's objects, one by one.
 use Prim.Native.Nat.{ℕ, _+_, _*_, _≤_, _<_}
 use mathlib.Core.Bool.{Bool, true, false, _||_}
 use mathlib.Core.List.{List, _++_}
@@ -12,8 +12,8 @@ use Rattle.rules.specs.Walks.{anyBelow, joinBelow}
 use Rattle.rules.specs.Refusing.{misses}
 use Rattle.rules.specs.Effects.{entryOf}
 use Rattle.rules.proofs.Walking.{any-zero, any-next, join-zero, join-next}
-use Rattle.leaf_end.specs.Sights.{noSight, seen, sightOf}
-use Rattle.leaf_end.specs.declared.Sight.{Sight}
+use Rattle.leaf_end.specs.Serving.Standings.{standingOfNone, standingWith, standingOf}
+use Rattle.leaf_end.specs.declared.Standing.{Standing}
 
 -- the entries of a slot's first objects
 abbrev pub entriesTo : Size → State → ℕ → ℕ → List ℕ
@@ -26,23 +26,23 @@ entry-few o pair = go (pair .declared) refl
     go true e = rw e (omega arith)
     go false e = rw e (omega arith)
 
--- what was seen is what the objects passed show
-pub record Seeing (z : Size) (t : State) (s n : ℕ) (sight : Sight) : Type 0 where
+-- how the slot stands by the objects that were asked about
+pub record StandsSoFar (z : Size) (t : State) (s n : ℕ) (standing : Standing) : Type 0 where
   pub reached : n ≤ z .objects
-  pub few : sight .bytes ≤ 5 * n
+  pub few : standing .bytes ≤ 5 * n
   pub shows :
-      sight
+      standing
       ≡ record {
         doomed = anyBelow n (λ o. pairAt z t s o .spoiled);
         unmet = anyBelow n (λ o. misses (pairAt z t s o) (objectAt t o));
         bytes = length (entriesTo z t s n);
       }
 
-pub sees-first : (z : Size) (t : State) (s : ℕ) (sight : Sight) → sight ≡ noSight → Seeing z t s 0 sight
-sees-first z t s sight e =
+pub stands-first : (z : Size) (t : State) (s : ℕ) (standing : Standing) → standing ≡ standingOfNone → StandsSoFar z t s 0 standing
+stands-first z t s standing e =
     record {
       reached = omega arith;
-      few = omega (arith, ap (λ (x : Sight). x .bytes) e);
+      few = omega (arith, ap (λ (x : Standing). x .bytes) e);
       shows =
           e
           ∙ sym
@@ -55,9 +55,9 @@ sees-first z t s sight e =
     }
 
 -- one object more
-pub sees-on : (z : Size) (t : State) (s n : ℕ) (sight sight′ : Sight) → n < z .objects → sight′ ≡ seen n (pairAt z t s n) (objectAt t n) sight
-    → Seeing z t s n sight → Seeing z t s (n + 1) sight′
-sees-on z t s n sight sight′ more e seeing =
+pub stands-on : (z : Size) (t : State) (s n : ℕ) (standing standing′ : Standing) → n < z .objects → standing′ ≡ standingWith n (pairAt z t s n) (objectAt t n) standing
+    → StandsSoFar z t s n standing → StandsSoFar z t s (n + 1) standing′
+stands-on z t s n standing standing′ more e stands =
     let entry : List ℕ = entryOf n (pairAt z t s n) in
     let spoiled : ℕ → Bool = λ o. pairAt z t s o .spoiled in
     let missing : ℕ → Bool = λ o. misses (pairAt z t s o) (objectAt t o) in
@@ -65,24 +65,24 @@ sees-on z t s n sight sight′ more e seeing =
     sym (length-append (entriesTo z t s n) entry) ∙ ap length (sym (join-next (λ o. entryOf o (pairAt z t s o)) n)) in
     record {
       reached = omega arith;
-      few = omega (arith, ap (λ (x : Sight). x .bytes) e, seeing .few, entry-few n (pairAt z t s n));
+      few = omega (arith, ap (λ (x : Standing). x .bytes) e, stands .few, entry-few n (pairAt z t s n));
       shows =
           e
-          ∙ ap (seen n (pairAt z t s n) (objectAt t n)) (seeing .shows)
+          ∙ ap (standingWith n (pairAt z t s n) (objectAt t n)) (stands .shows)
           ∙ (λ i. record { doomed = sym (any-next spoiled n) i; unmet = sym (any-next missing n) i; bytes = long i });
     }
 
 -- behind the last object
-pub sees-all : (z : Size) (t : State) (s n : ℕ) (sight : Sight) → z .objects ≤ n → Seeing z t s n sight
-    → (sight ≡ sightOf z t s) × (sight .bytes ≤ 5 * z .objects)
-sees-all z t s n sight all seeing =
-    let every : n ≡ z .objects = omega (arith, seeing .reached) in (
-      seeing .shows
+pub stands-all : (z : Size) (t : State) (s n : ℕ) (standing : Standing) → z .objects ≤ n → StandsSoFar z t s n standing
+    → (standing ≡ standingOf z t s) × (standing .bytes ≤ 5 * z .objects)
+stands-all z t s n standing all stands =
+    let every : n ≡ z .objects = omega (arith, stands .reached) in (
+      stands .shows
           ∙ (λ i.
           record {
             doomed = anyBelow (every i) (λ o. pairAt z t s o .spoiled);
             unmet = anyBelow (every i) (λ o. misses (pairAt z t s o) (objectAt t o));
             bytes = length (entriesTo z t s (every i));
           }),
-      omega (arith, seeing .few),
+      omega (arith, stands .few),
     )

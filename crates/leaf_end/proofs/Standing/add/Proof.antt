@@ -1,10 +1,10 @@
--- `leaf_end::Sight::look` meets its promise.
+-- `leaf_end::Standing::add` meets its promise.
 use Prim.Native.Nat.{ℕ, _+_}
 use mathlib.Core.Bool.{Bool, _||_}
 use mathlib.Core.Path.{ap, _∙_}
 use borrow.Author.Needs.{needs}
-use Rattle.leaf_end.proofs.Sight.look.Statement.{statement}
-use Rattle.leaf_end.proofs.Sight.look.Tie as tie
+use Rattle.leaf_end.proofs.Standing.add.Statement.{statement}
+use Rattle.leaf_end.proofs.Standing.add.Tie as tie
 
 returns : tie.Need-returns
 returns c =
@@ -20,8 +20,8 @@ returns c =
       bytes = ap (λ (n : ℕ). a .self .bytes + n) (counted .entry-bytes .ensures .0 o) i;
     }
 
-pub look-spec : {M : Type 1} → statement M
-look-spec =
+pub add-spec : {M : Type 1} → statement M
+add-spec =
     tie.close
     (tie.spec
     (λ c κs. search needs)

@@ -20,11 +20,17 @@ use Rattle.rules.specs.Refusing.{doomed, turnRules, callRules, releaseRules}
 use Rattle.rules.specs.Effects.{callEffect, releaseEffect}
 use Rattle.rules.specs.Steps.{Stepping, unchanged, callStep, releaseStep}
 use Rattle.answers.specs.declared.Verdict.the-variants.{Passes, Refuses}
-use Rattle.step_call.proofs.Seated.{step-refused, step-passed}
+use Rattle.step_call.proofs.InRange.{step-refused, step-passed}
 
-module _ (z : Size) (t : State) (slot number s o : ℕ) (right-slot : slot < z .slots → s ≡ slot) (right-object : number < z .objects → o ≡ number)
-    (live : Bool) (pair : Pair) (object : Object)
-    (is-live : live ≡ liveAt t s) (is-pair : pair ≡ pairAt z t s o) (is-object : object ≡ objectAt t o) where
+-- what is looked at in t: the slot and the object of the event where these are in range, and what stands there
+pub record LookedAtPair (z : Size) (t : State) (slot number s o : ℕ) (live : Bool) (pair : Pair) (object : Object) : Type 0 where
+  pub right-slot : slot < z .slots → s ≡ slot
+  pub right-object : number < z .objects → o ≡ number
+  pub is-live : live ≡ liveAt t s
+  pub is-pair : pair ≡ pairAt z t s o
+  pub is-object : object ≡ objectAt t o
+
+module _ {z : Size} {t : State} {slot number s o : ℕ} {live : Bool} {pair : Pair} {object : Object} (looked : LookedAtPair z t slot number s o live pair object) where
   releasing : ℕ → ℕ → List Rule
   releasing r q = NotDeclared when not (pairAt z t r q .declared) ∷ turnRules z (pairAt z t r q) (objectAt t q)
 
@@ -35,16 +41,16 @@ module _ (z : Size) (t : State) (slot number s o : ℕ) (right-slot : slot < z .
       → unchanged t refusal ≡ releaseStep z t slot number
   unfolding releasing released
   release-refused refusal e =
-      step-refused z t slot number s o right-slot right-object releasing released refusal
-      ((λ i. decide (releaseRules z slot number (sym is-live i) (sym is-pair i) (sym is-object i)) Refuses Passes) ∙ e)
+      step-refused z t slot number s o (looked .right-slot) (looked .right-object) releasing released refusal
+      ((λ i. decide (releaseRules z slot number (sym (looked .is-live) i) (sym (looked .is-pair) i) (sym (looked .is-object) i)) Refuses Passes) ∙ e)
 
   pub release-passed : decide (releaseRules z slot number live pair object) Refuses Passes ≡ Passes
       → record { tables = withObject t o (letGo (pair .private) object); reply = accepted 0 } ≡ releaseStep z t slot number
   unfolding releasing released
   release-passed e =
-      (λ i. record { tables = withObject t o (letGo (is-pair i .private) (is-object i)); reply = accepted 0 })
-      ∙ step-passed z t slot number s o right-slot right-object releasing released
-      ((λ i. decide (releaseRules z slot number (sym is-live i) (sym is-pair i) (sym is-object i)) Refuses Passes) ∙ e)
+      (λ i. record { tables = withObject t o (letGo (looked .is-pair i .private) (looked .is-object i)); reply = accepted 0 })
+      ∙ step-passed z t slot number s o (looked .right-slot) (looked .right-object) releasing released
+      ((λ i. decide (releaseRules z slot number (sym (looked .is-live) i) (sym (looked .is-pair) i) (sym (looked .is-object) i)) Refuses Passes) ∙ e)
 
   module _ (kind argument : ℕ) (is-doomed : Bool) (dooms : is-doomed ≡ doomed z t s) where
     calling : ℕ → ℕ → List Rule
@@ -61,8 +67,8 @@ module _ (z : Size) (t : State) (slot number s o : ℕ) (right-slot : slot < z .
         → unchanged t refusal ≡ callStep z t slot number kind argument
     unfolding calling called
     call-refused refusal e =
-        step-refused z t slot number s o right-slot right-object calling called refusal
-        ((λ i. decide (callRules z slot number kind (sym is-live i) (sym dooms i) (sym is-pair i) (sym is-object i)) Refuses Passes) ∙ e)
+        step-refused z t slot number s o (looked .right-slot) (looked .right-object) calling called refusal
+        ((λ i. decide (callRules z slot number kind (sym (looked .is-live) i) (sym dooms i) (sym (looked .is-pair) i) (sym (looked .is-object) i)) Refuses Passes) ∙ e)
 
     pub call-passed : decide (callRules z slot number kind live is-doomed pair object) Refuses Passes ≡ Passes
         → (act : Acted) (next : Object) (next-pair : Pair) → act ≡ acted kind (object .word) argument
@@ -75,9 +81,9 @@ module _ (z : Size) (t : State) (slot number s o : ℕ) (right-slot : slot < z .
         ∙ (λ i.
         record {
           tables =
-              withPair z (withObject t o (calledWith (acted kind (is-object i .word) argument .word) (is-pair i) (is-object i))) s o
-              (calledPair (is-pair i) (is-object i));
-          reply = accepted (acted kind (is-object i .word) argument .answer);
+              withPair z (withObject t o (calledWith (acted kind (looked .is-object i .word) argument .word) (looked .is-pair i) (looked .is-object i))) s o
+              (calledPair (looked .is-pair i) (looked .is-object i));
+          reply = accepted (acted kind (looked .is-object i .word) argument .answer);
         })
-        ∙ step-passed z t slot number s o right-slot right-object calling called
-        ((λ i. decide (callRules z slot number kind (sym is-live i) (sym dooms i) (sym is-pair i) (sym is-object i)) Refuses Passes) ∙ e)
+        ∙ step-passed z t slot number s o (looked .right-slot) (looked .right-object) calling called
+        ((λ i. decide (callRules z slot number kind (sym (looked .is-live) i) (sym dooms i) (sym (looked .is-pair) i) (sym (looked .is-object) i)) Refuses Passes) ∙ e)
