@@ -13,7 +13,7 @@ use Rattle.answers.specs.Order.{pick}
 use Rattle.answers.specs.declared.Answer.{Answer}
 use Rattle.answers.specs.declared.Answer.the-variants.{Accepted, Refused}
 use Rattle.answers.specs.declared.Refusal.the-variants.{BadSlot, BadObject, BadList, Busy, Idle, NotDeclared, BadCall, Released, Doomed, Wait, NoRoom, BadRecord}
-use Rattle.bench_lines.specs.Buffers.{lent, putAt}
+use Rattle.bench_lines.specs.Serving.Buffers.{lent, putAt}
 
 -- a byte in front of what stands from a place on
 pub byte-put : (l : List ℕ) (from byte : ℕ) → 0 < from → from ≤ length l → drop (from - 1) (set l (from - 1) byte) ≡ byte ∷ drop from l

@@ -1,3 +1,2 @@
-pub mod Buffers
 pub mod Lines
-pub mod Made
+pub mod Serving

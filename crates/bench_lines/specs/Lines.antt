@@ -1,12 +1,11 @@
--- 'one line: the event's number from 1, the number from the table, the value', in decimal digits, as bytes of text.
+-- R40: a line, as bytes of text.
 use Prim.Native.Nat.{ℕ, zero, suc, _+_, _/_, _%_}
 use mathlib.Core.List.{List, [], _∷_, _++_}
 use lib.Dec.{eqb}
 use Rattle.answers.specs.Numbers.{Reply}
 use Rattle.answers.specs.Order.{pick}
-use Rattle.bench_lines.specs.Buffers.{Lent, putAt}
 
--- the last digit of a number
+-- R40: the last digit of a number
 abbrev pub digitOf : ℕ → ℕ
 digitOf n = 48 + n % 10
 
@@ -15,14 +14,10 @@ unfoldable pub digitsOf : ℕ → ℕ → List ℕ
 digitsOf zero n = []
 digitsOf (suc places) n = pick (eqb n 0) [] (digitsOf places (n / 10) ++ (digitOf n ∷ []))
 
--- the digits of a number below 10^20, as every 64-bit number is: the last one always, and those in front of it
+-- R40: the digits of a number below 10^20, as every 64-bit number is: the last one always, and those in front of it
 abbrev pub decimal : ℕ → List ℕ
 decimal n = digitsOf 20 (n / 10) ++ (digitOf n ∷ [])
 
--- the three numbers, a space between them, and the line's end
+-- R40: the three numbers, a space between them, and the newline
 abbrev pub lineOf : ℕ → Reply → List ℕ
 lineOf event reply = decimal event ++ (32 ∷ (decimal (reply .number) ++ (32 ∷ (decimal (reply .value) ++ (10 ∷ [])))))
-
--- the line at a place of a buffer
-abbrev pub linePut : ℕ → Reply → List ℕ → ℕ → Lent
-linePut event reply buffer at = putAt (lineOf event reply) buffer at

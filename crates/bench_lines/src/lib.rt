@@ -1,13 +1,12 @@
-// The bench's text: the line of an event, which is its number, the number from the table and the value, in decimal. Its
-// buffer is in `buffers`.
+// R40: the line of an event, and its place in a buffer of lines; `buffers` has what is done with a buffer of input.
 ghost use mathlib.Core.Path.{_≡_};
 ghost use mathlib.Core.List.{_∷_, _++_};
 ghost use Prim.Native.Nat.{_+_, _<_, _≤_};
 ghost use lib.ListN.{length};
 ghost use Rattle.answers.specs.Numbers.{replyOf};
-ghost use Rattle.bench_lines.specs.Buffers.{lent, putAt};
-ghost use Rattle.bench_lines.specs.Lines.{digitOf, decimal, lineOf, linePut};
-ghost use Rattle.bench_lines.specs.Made.{lineLimit, made};
+ghost use Rattle.bench_lines.specs.Serving.Buffers.{lent, putAt, linePut};
+ghost use Rattle.bench_lines.specs.Lines.{digitOf, decimal, lineOf};
+ghost use Rattle.bench_lines.specs.Serving.Made.{lineLimit, made};
 
 pub mod buffers;
 

@@ -16,13 +16,14 @@ use Rattle.record_order.specs.declared.CameFirst.{CameFirst}
 use Rattle.record_order.specs.declared.CameFirst.the-variants.{Compared, Unrelated, Refused}
 use Rattle.rules.specs.Walks.{anyBelow}
 
--- the numbers that stand for the names of 'Which came first'
+-- R38: the answers of R36 as numbers
 abbrev pub codeOf : Comparison → ℕ
 codeOf A = 1
 codeOf B = 2
 codeOf Same = 3
 codeOf Far = 4
 
+-- R38: what the caller is told
 abbrev pub orderOf : CameFirst → Reply
 orderOf (Compared comparison) = accepted (codeOf comparison)
 orderOf Unrelated = accepted 5

@@ -21,11 +21,11 @@ module _ (z : Size) (a b : List ℕ) where
   abbrev answered : Bool → Bool → CameFirst
   answered a-is-end b-is-end = decide (orderRules a-is-end b-is-end) Refused (meetingOf (entriesOf (listing z a)) (entriesOf (listing z b)))
 
-  -- 'Bytes that don't read as an end record give BadRecord': A's
+  -- R34: bytes of A that read as no end record are refused
   pub refused-for-a : isEnd (reading z a) ≡ false → cameFirst z a b ≡ Refused BadRecord
   refused-for-a not-a = ap (λ (t : Bool). answered t (isEnd (reading z b))) not-a
 
-  -- and B's
+  -- and then bytes of B
   pub refused-for-b : isEnd (reading z a) ≡ true → isEnd (reading z b) ≡ false → cameFirst z a b ≡ Refused BadRecord
   refused-for-b is-a not-b = ap (λ (t : Bool). answered t (isEnd (reading z b))) is-a ∙ ap (answered true) not-b
 

@@ -26,7 +26,7 @@ use Rattle.record_layout.specs.declared.fields.Reading
 use Rattle.record_layout.proofs.Fronts.{bytes-drop, bytes-take}
 use Rattle.record_order.specs.CameFirst.{isEnd}
 use Rattle.record_order.specs.CommonObject.{Rising, VersionsFit}
-use Rattle.record_layout.proofs.Readable.{both-true}
+use Rattle.answers.proofs.Tests.{both-true}
 
 -- what holds of every refusal, and of what is accepted where no rule holds, holds of what is decided
 by-decision : {A : Type 0} (P : A → Type 0) (rules : List Rule) (refused : Refusal → A) (accepted : A)
@@ -66,7 +66,7 @@ module _ (z : Size) (b : List ℕ) where
       (λ passed. content-rises k (not-false _ (passed .1 .0)))
   kind-rises Unknown = no-end
 
--- 'objects not rising' is refused
+-- R28: a record of an end whose objects do not rise is refused
 pub end-list-rises : (z : Size) (s : List ℕ) → isEnd (reading z s) ≡ true → Rising (z .objects) (entriesOf (listing z s))
 end-list-rises z s =
     by-decision (Rises z (body z s)) (frameRules z s) Reading.Refused (readingOf z (kindOf (kindField s)) (body z s)) (λ refusal. no-end)

@@ -7,7 +7,7 @@ use mathlib.Core.Path.{_≡_}
 use borrow.Author.Tests.{leb-true}
 use native.Mathlib.Omega.{arith}
 use lib.Dec.{leb, ltb}
-use Rattle.record_layout.proofs.Readable.{both-true}
+use Rattle.answers.proofs.Tests.{both-true}
 use Rattle.record_layout.specs.Entries.{Entry, risingFrom}
 use Rattle.record_order.specs.CommonObject.{Lists}
 

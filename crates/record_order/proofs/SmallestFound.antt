@@ -17,11 +17,11 @@ use Rattle.record_order.specs.declared.CameFirst.the-variants.{Compared,
 use Rattle.record_order.proofs.Listed.{one-version}
 use Rattle.record_order.proofs.Search.{Found, found-or-none}
 
--- 'No common object: Unrelated.'
+-- R35: Unrelated is answered where no object is listed by both
 pub unrelated : (es fs : List Entry) → ((o v w : ℕ) → Common es fs o v w → ⊥) → meetingOf es fs ≡ Unrelated
 unrelated es fs none = ⊎-elim (λ found. absurd (none _ _ _ (found .common))) (λ nothing. nothing .answer) (found-or-none es fs)
 
--- and Unrelated is answered there only
+-- and nowhere else
 pub unrelated-only : (es fs : List Entry) → meetingOf es fs ≡ Unrelated → (o v w : ℕ) → Common es fs o v w → ⊥
 unrelated-only es fs answer =
     ⊎-elim
@@ -52,7 +52,7 @@ module _ (objects : ℕ) (es fs : List Entry) (rises-a : Rising objects es) wher
       (λ nothing. let clash : _≡_ {A = ℕ} 0 1 = cc (nothing .answer) in absurd (omega arith))
       (found-or-none es fs)
 
-  -- 'take the smallest object that both list': its versions give the answer
+  -- R36: the versions of the smallest object that both list give the answer
   pub smallest-answers : Rising objects fs → (o v w : ℕ) → Smallest es fs o v w → meetingOf es fs ≡ Compared (compared v w)
   smallest-answers rises-b o v w smallest =
       ⊎-elim
@@ -77,12 +77,12 @@ module _ (objects : ℕ) (es fs : List Entry) (rises-a : Rising objects es) wher
     pub half-is-far : Smallest es fs o v ((v + 2147483648) % turnover) → meetingOf es fs ≡ Compared Far
     half-is-far smallest = smallest-answers rises-b o v _ smallest ∙ ap Compared (only-far v fits)
 
-  -- 'the true start order' of versions counted without wrapping, where they differ by less than 2147483648
+  -- R37: versions counted on past the turnover that differ by less than 2147483648 are told in their order
   pub true-order : Rising objects fs → (o p q : ℕ) → p < q → q < p + 2147483648
       → Smallest es fs o (p % turnover) (q % turnover) → meetingOf es fs ≡ Compared A
   true-order rises-b o p q before near smallest = smallest-answers rises-b o _ _ smallest ∙ ap Compared (first-unwrapped p q before near)
 
-  -- 'versions 4294967295 then 0 (A first)'
+  -- R37 at the turnover: 4294967295 comes before 0
   pub turnover-is-a : Rising objects fs → (o : ℕ) → Smallest es fs o 4294967295 0 → meetingOf es fs ≡ Compared A
   turnover-is-a rises-b o smallest = true-order rises-b o 4294967295 4294967296 (omega arith) (omega arith) smallest
 

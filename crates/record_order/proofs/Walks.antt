@@ -1,4 +1,4 @@
--- 'A walk of one list inside a walk of the other', over bytes in steps of five: what each turn and each end says of the meeting.
+-- R35 over bytes in steps of five: what each turn and each end of the two walks says of what they find.
 use Prim.Native.Nat.{ℕ, _+_, _-_, _≤_, _<_}
 use mathlib.Core.List.{List}
 use mathlib.Core.Path.{_≡_, ap, _∙_}

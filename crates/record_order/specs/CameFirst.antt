@@ -1,5 +1,4 @@
--- 'Which came first. Given two end records A and B, take the smallest object that both list, found by a walk of one list inside a walk
--- of the other, left at the first hit.'
+-- Which of two end records, A and B, came first.
 use Prim.Native.Nat.{ℕ}
 use mathlib.Core.Bool.{Bool, true, false, not}
 use mathlib.Core.List.{List, [], _∷_}
@@ -17,17 +16,17 @@ use Rattle.record_layout.specs.declared.fields.Reading
 use Rattle.record_order.specs.declared.CameFirst.{CameFirst}
 use Rattle.record_order.specs.declared.CameFirst.the-variants.{Compared, Unrelated, Refused}
 
--- the walk of B's list for an entry of A's: the comparison at the first entry with its object, else what is given
+-- R35: B's entries gone through for an entry of A's: the comparison at the first with its object, else what is given
 abbrev pub meet : Entry → List Entry → CameFirst → CameFirst
 meet e [] otherwise = otherwise
 meet e (f ∷ fs) otherwise = pick (eqb (e .object) (f .object)) (Compared (compared (e .version) (f .version))) (meet e fs otherwise)
 
--- the walk of A's list. 'No common object: Unrelated.'
+-- R35: A's entries gone through
 abbrev pub meetingOf : List Entry → List Entry → CameFirst
 meetingOf [] fs = Unrelated
 meetingOf (e ∷ es) fs = meet e fs (meetingOf es fs)
 
--- committed or rolled back
+-- R34: the records of ends
 abbrev pub ofEnd : Fields → Bool
 ofEnd (Fields.Fresh first) = false
 ofEnd (Fields.Start slot) = false
@@ -42,13 +41,14 @@ abbrev pub isEnd : Reading → Bool
 isEnd (Reading.Fields fields) = ofEnd fields
 isEnd (Reading.Refused refusal) = false
 
--- 'Bytes that don't read as an end record give BadRecord, A's before B's.'
+-- R34: A is tried before B
 abbrev pub orderRules : Bool → Bool → List Rule
 orderRules a-is-end b-is-end =
     BadRecord when not a-is-end
     ∷ BadRecord when not b-is-end
     ∷ []
 
+-- R34 to R36, of any bytes
 abbrev pub cameFirst : Size → List ℕ → List ℕ → CameFirst
 cameFirst z a b =
     decide (orderRules (isEnd (reading z a)) (isEnd (reading z b))) Refused (meetingOf (entriesOf (listing z a)) (entriesOf (listing z b)))

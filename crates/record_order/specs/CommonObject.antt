@@ -1,4 +1,4 @@
--- What 'the smallest object that both list' means, whatever walk finds it.
+-- R35: what it means that an object is the smallest that two lists have, whatever walk finds it.
 use Prim.Native.Nat.{ℕ, _<_}
 use mathlib.Core.Bool.{true}
 use mathlib.Core.List.{List, [], _∷_}

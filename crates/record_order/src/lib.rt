@@ -1,4 +1,4 @@
-// Which came first: the order of two end records, by the versions of the smallest object that both list.
+// R34 to R36: which of two end records came first.
 ghost use mathlib.Core.Path.{_≡_};
 ghost use Rattle.counters.specs.Sizes.{base};
 ghost use Rattle.record_layout.specs.Entries.{entriesOf};
@@ -10,14 +10,14 @@ use counters::Version;
 use record_layout::fields::Fields;
 use record_layout::fields::Reading;
 
-// What the versions of that object say, or that there is none, or that one of the two is no end record.
+// R36: what two versions of one object say; R35: no object is listed by both; R34: one of the two is no end record.
 pub enum CameFirst {
     Compared(Comparison),
     Unrelated,
     Refused(Refusal),
 }
 
-// Bytes that don't read as an end record give BadRecord, A's before B's.
+// R34: A is tried before B.
 pub fn came_first(a: &[u8], b: &[u8]) -> CameFirst
     ensures { λ r. ⌜ r ≡ cameFirst base (now (a .entry)) (now (b .entry)) ⌝ }
 {
@@ -30,7 +30,7 @@ pub fn came_first(a: &[u8], b: &[u8]) -> CameFirst
     meeting(record_read::list(a), record_read::list(b))
 }
 
-// Whether the bytes read as an end record.
+// R34: whether the bytes read as an end record.
 fn reads_as_end(s: &[u8]) -> bool
     ensures { λ r. ⌜ r ≡ isEnd (reading base (now (s .entry))) ⌝ }
 {
@@ -40,7 +40,7 @@ fn reads_as_end(s: &[u8]) -> bool
     is_end(fields)
 }
 
-// Whether the record is an end: committed or rolled back.
+// R34: whether a record is of an end.
 fn is_end(fields: Fields) -> bool
     ensures { λ r. ⌜ r ≡ ofEnd fields ⌝ }
 {
@@ -61,7 +61,7 @@ fn is_end(fields: Fields) -> bool
     }
 }
 
-// A walk of one list inside a walk of the other, left at the first hit.
+// R35: B's entries are gone through for each of A's, until two have the same object.
 fn meeting(a: &[u8], b: &[u8]) -> CameFirst
     ensures { λ r. ⌜ r ≡ meetingOf (entriesOf (now (a .entry))) (entriesOf (now (b .entry))) ⌝ }
 {

@@ -1,5 +1,5 @@
-// What is printed: words, sentences with numbers, answers, and kinds, bytes and parts in hexadecimal as the paper writes
-// them. All of it goes to standard output.
+// What is printed: words, sentences with numbers, answers, and kinds, bytes and parts in hexadecimal. All of it goes to
+// standard output.
 ghost use Prim.Native.Nat.{_<_};
 use crate::scan::after;
 use crate::scan::before;
@@ -28,7 +28,7 @@ pub fn number(n: u32) {
     io::print_decimal(1, n as u64);
 }
 
-// The number from the table, and the value.
+// The number of R20, and the value.
 pub fn answer(answer: Answer) {
     sentence(b": _ _", &[answer.number(), answer.value()]);
 }

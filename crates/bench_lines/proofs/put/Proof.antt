@@ -6,8 +6,8 @@ use native.Mathlib.Omega.{arith}
 use lib.ListN.{length, drop, length-drop}
 use lib.Seq.{take-all}
 use borrow.Author.Needs.{needs}
-use Rattle.bench_lines.specs.Buffers.{putAt}
-use Rattle.bench_lines.specs.Made.{lineLimit}
+use Rattle.bench_lines.specs.Serving.Buffers.{putAt}
+use Rattle.bench_lines.specs.Serving.Made.{lineLimit}
 use Rattle.bench_lines.proofs.put.Statement.{statement}
 use Rattle.bench_lines.proofs.put.Tie as tie
 

@@ -3,7 +3,7 @@ use Prim.Native.Nat.{_≤_}
 use mathlib.Core.Path.{ap}
 use native.Mathlib.Omega.{arith}
 use lib.ListN.{length, length-drop}
-use Rattle.bench_lines.specs.Buffers.{Lent}
+use Rattle.bench_lines.specs.Serving.Buffers.{Lent}
 use borrow.Author.Needs.{needs}
 use Rattle.bench.proofs.input.fill.Statement.{statement}
 use Rattle.bench.proofs.input.fill.Tie as tie

@@ -5,7 +5,7 @@ use native.Mathlib.Omega.{arith}
 use lib.ListN.{length}
 use lib.Seq.{length-take-le}
 use Rattle.answers.specs.Numbers.{replyOf}
-use Rattle.bench_lines.specs.Buffers.{Lent}
+use Rattle.bench_lines.specs.Serving.Buffers.{Lent}
 use Rattle.bench_lines.specs.Lines.{lineOf}
 use Rattle.bench_lines.proofs.Making.{ends-within}
 use borrow.Author.Needs.{needs}

@@ -9,7 +9,7 @@ use Rattle.answers.specs.Numbers.{replyOf}
 use Rattle.bench_lines.specs.Lines.{decimal}
 use Rattle.bench_lines.proofs.Digits.{few-decimal}
 use Rattle.bench_lines.proofs.Making.{two-digits}
-use Rattle.bench_lines.specs.Made.{lineLimit}
+use Rattle.bench_lines.specs.Serving.Made.{lineLimit}
 use Rattle.bench_lines.proofs.Line.of.Statement.{statement}
 use Rattle.bench_lines.proofs.Line.of.Tie as tie
 
