@@ -63,5 +63,5 @@ abbrev pub lookPairRules : ℕ → ℕ → List Rule
 lookPairRules slot number = BadSlot when leb (base .slots) slot ∷ BadObject when leb (base .objects) number ∷ []
 
 -- 1 where every byte is 0 or 1
-abbrev pub holdOf : List ℕ → ℕ
-holdOf bytes = pick (anyBelow (length bytes) (λ i. ltb 1 (getD bytes i 0))) 0 1
+abbrev pub marksHold : List ℕ → ℕ
+marksHold bytes = pick (anyBelow (length bytes) (λ i. ltb 1 (getD bytes i 0))) 0 1

@@ -10,7 +10,7 @@ ghost use Rattle.rules.specs.Tables.{noObject};
 ghost use Rattle.rules.specs.Walks.{anyBelow};
 ghost use Rattle.tables.specs.Views.{objectsOf, liveOf};
 ghost use Rattle.pump.specs.Looks.{pairSeen};
-ghost use Rattle.kernel.specs.Shown.{codeOf, orderOf, Look, looked, bitOf, objectWords, pairWords, lookObjectRules, lookPairRules, holdOf};
+ghost use Rattle.kernel.specs.Shown.{codeOf, orderOf, Look, looked, bitOf, objectWords, pairWords, lookObjectRules, lookPairRules, marksHold};
 use answers::Answer;
 use answers::Refusal;
 use counters::Comparison;
@@ -27,12 +27,13 @@ use record_order::CameFirst;
 pub extern "C" fn gustlantern_raw_came_first(a: &[u8], b: &[u8], order: &mut u32) -> u32
     ensures { λ r. ⌜ _≡_ {A = Reply} (record { number = r; value = now (order .exit) }) (orderOf (cameFirst base (now (a .entry)) (now (b .entry)))) ⌝ }
 {
-    let answer = told(record_order::came_first(a, b));
+    let answer = as_numbers(record_order::came_first(a, b));
     *order = answer.value();
     answer.number()
 }
 
-fn told(found: CameFirst) -> Answer
+// R38: the answer of two records as numbers.
+fn as_numbers(found: CameFirst) -> Answer
     ensures { λ r. ⌜ replyOf r ≡ orderOf found ⌝ }
 {
     match found {
@@ -42,6 +43,7 @@ fn told(found: CameFirst) -> Answer
     }
 }
 
+// R38: the number of a comparison.
 fn code(comparison: Comparison) -> u32
     ensures { λ r. ⌜ r ≡ codeOf comparison ⌝ }
 {
@@ -128,7 +130,7 @@ fn bit(mark: bool) -> u32
 // Whether each mark is 0 or 1, as every other function needs it of its caller's memory.
 #[no_mangle]
 pub extern "C" fn gustlantern_raw_marks_hold(marks: &[u8; 1168]) -> u32
-    ensures { λ r. ⌜ r ≡ holdOf (now (marks .entry)) ⌝ }
+    ensures { λ r. ⌜ r ≡ marksHold (now (marks .entry)) ⌝ }
 {
     bit(!exceeds(marks))
 }

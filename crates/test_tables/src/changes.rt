@@ -12,14 +12,14 @@ use test_text::show::sentence;
 
 // Nothing is said where nothing is new.
 pub fn changes(before: Tables, after: Tables) {
-    told(
+    print_changes(
         objects(before, after),
         slots(before, after),
         pairs(before, after),
     );
 }
 
-fn told(objects: u32, slots: u32, pairs: u32) {
+fn print_changes(objects: u32, slots: u32, pairs: u32) {
     if (objects == 0) & (slots == 0) & (pairs == 0) {
         return;
     }

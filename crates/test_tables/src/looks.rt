@@ -13,11 +13,11 @@ use test_text::show::sentence;
 // `show object 3`
 pub fn object(line: &[u8], tables: Tables) -> Tables {
     let words = tables.words;
-    told_object(looks::object(&words, object_at(line)));
+    print_object(looks::object(&words, object_at(line)));
     tables
 }
 
-fn told_object(object: Object) {
+fn print_object(object: Object) {
     sentence(
         b": word _, global _, local _, terminal _",
         &[
@@ -31,11 +31,11 @@ fn told_object(object: Object) {
 
 // `show pair 0 3`
 pub fn pair(line: &[u8], tables: Tables) -> Tables {
-    told_pair(pair_in(tables, slot_at(line), object_behind(line)));
+    print_pair(pair_in(tables, slot_at(line), object_behind(line)));
     tables
 }
 
-fn told_pair(pair: Pair) {
+fn print_pair(pair: Pair) {
     sentence(
         b": supremum _, private _, count _, saved _, declared _, called _, spoiled _",
         &[

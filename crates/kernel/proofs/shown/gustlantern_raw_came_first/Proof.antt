@@ -9,10 +9,10 @@ use Rattle.kernel.proofs.shown.gustlantern_raw_came_first.Tie as tie
 returns : tie.Need-returns
 returns c =
     let valued = c .before in
-    let told = valued .before in
+    let numbered = valued .before in
     (λ i. record { number = c .number .ensures i; value = valued .value .ensures i })
-    ∙ told .told .ensures
-    ∙ ap orderOf (told .before .came-first .ensures)
+    ∙ numbered .as-numbers .ensures
+    ∙ ap orderOf (numbered .before .came-first .ensures)
 
 pub gustlantern-raw-came-first-spec : {M : Type 1} → statement M
 gustlantern-raw-came-first-spec =

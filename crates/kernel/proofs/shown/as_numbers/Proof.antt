@@ -1,11 +1,11 @@
--- `kernel::shown::told` meets its promise.
+-- `kernel::shown::as_numbers` meets its promise.
 use mathlib.Core.Path.{sym, ap, _∙_}
 use Prim.Native.Nat.{ℕ}
 use Rattle.answers.specs.Numbers.{accepted}
 use Rattle.kernel.specs.Shown.{orderOf}
 use borrow.Author.Needs.{needs}
-use Rattle.kernel.proofs.shown.told.Statement.{statement}
-use Rattle.kernel.proofs.shown.told.Tie as tie
+use Rattle.kernel.proofs.shown.as_numbers.Statement.{statement}
+use Rattle.kernel.proofs.shown.as_numbers.Tie as tie
 
 returns : tie.Need-returns
 returns c =
@@ -18,8 +18,8 @@ returns-2 c = ap orderOf (sym (c .enum-told .given .1))
 returns-3 : tie.Need-returns-3
 returns-3 c = ap orderOf (sym (c .before .found2 .given .1))
 
-pub told-spec : {M : Type 1} → statement M
-told-spec =
+pub as-numbers-spec : {M : Type 1} → statement M
+as-numbers-spec =
     tie.close
     (tie.spec
     (λ c. search needs)
