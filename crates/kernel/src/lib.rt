@@ -13,6 +13,7 @@ use counters::ObjectNo;
 use counters::SlotNo;
 use counters::Version;
 
+// R7: fresh tables.
 #[no_mangle]
 pub extern "C" fn gustlantern_raw_fresh(
     words: &mut [u32; 864],
@@ -26,6 +27,7 @@ pub extern "C" fn gustlantern_raw_fresh(
     pump::fresh(words, bytes, marks, Version(first), from);
 }
 
+// R12: a start.
 #[no_mangle]
 pub extern "C" fn gustlantern_raw_start(
     words: &mut [u32; 864],
@@ -39,6 +41,7 @@ pub extern "C" fn gustlantern_raw_start(
     pump::start(words, bytes, marks, SlotNo(slot), list).number()
 }
 
+// R13: a call.
 #[no_mangle]
 pub extern "C" fn gustlantern_raw_call(
     words: &mut [u32; 864],
@@ -65,6 +68,7 @@ pub extern "C" fn gustlantern_raw_call(
     answer.number()
 }
 
+// R15: a release.
 #[no_mangle]
 pub extern "C" fn gustlantern_raw_release(
     words: &mut [u32; 864],
@@ -78,6 +82,7 @@ pub extern "C" fn gustlantern_raw_release(
     pump::release(words, bytes, marks, SlotNo(slot), ObjectNo(object)).number()
 }
 
+// R16: a commit.
 #[no_mangle]
 pub extern "C" fn gustlantern_raw_commit(
     words: &mut [u32; 864],
@@ -95,6 +100,7 @@ pub extern "C" fn gustlantern_raw_commit(
     answer.number()
 }
 
+// R17: a rollback.
 #[no_mangle]
 pub extern "C" fn gustlantern_raw_rollback(
     words: &mut [u32; 864],
@@ -112,7 +118,7 @@ pub extern "C" fn gustlantern_raw_rollback(
     answer.number()
 }
 
-// The event whose record stands at the first byte.
+// R31: the event whose record stands at the first byte.
 #[no_mangle]
 pub extern "C" fn gustlantern_raw_step(
     words: &mut [u32; 864],

@@ -23,6 +23,7 @@ use objects::Pair;
 use pump::looks;
 use record_order::CameFirst;
 
+// R34 to R38: which of two records came first.
 #[no_mangle]
 pub extern "C" fn gustlantern_raw_came_first(a: &[u8], b: &[u8], order: &mut u32) -> u32
     ensures { λ r. ⌜ _≡_ {A = Reply} (record { number = r; value = now (order .exit) }) (orderOf (cameFirst base (now (a .entry)) (now (b .entry)))) ⌝ }
@@ -55,6 +56,7 @@ fn code(comparison: Comparison) -> u32
     }
 }
 
+// R4: what is kept of an object.
 #[no_mangle]
 pub extern "C" fn gustlantern_raw_object(words: &[u32; 864], object: u8, seen: &mut [u32; 4]) -> u32
     ensures { λ r. ⌜ _≡_ {A = Look} (record { number = r; words = now (seen .exit) }) (looked (lookObjectRules object) (now (seen .entry)) (objectWords (getD (objectsOf base (now (words .entry))) object noObject))) ⌝ }
@@ -79,6 +81,7 @@ fn show_object(object: Object, seen: &mut [u32])
     seen[3] = terminal.0;
 }
 
+// R4: what is kept of a slot and an object, behind the slot's live mark.
 #[no_mangle]
 pub extern "C" fn gustlantern_raw_pair(
     words: &[u32; 864],

@@ -17,7 +17,7 @@ use Rattle.rules.specs.Effects.{spoilOne, spoilOthers, restoreOne, endOne, endT
 use Rattle.rules.proofs.Stores.{Sized, sized-object, sized-pair, object-kept}
 use Rattle.rules.proofs.Walking.{each-zero, each-next}
 use Rattle.rules.proofs.Restored.{restore-keeps, restore-object}
-use Rattle.leaf_end.specs.Serving.Ends.{endedObject, spreadOf}
+use Rattle.leaf_end.specs.Serving.Ends.{endedObject, slotsAsked}
 use Rattle.leaf_end.proofs.Spoils.{spoils-beside}
 
 end-at : (z : Size) (s o : ℕ) (v : State) (pair : Pair) (object : Object) → pairAt z v s o ≡ pair → objectAt v o ≡ object → pair .declared ≡ true
@@ -58,18 +58,18 @@ module _ (z : Size) (s o : ℕ) (u : State) (sized : Sized z u) (inside : o < z 
       ∙ ap (endOne z s o) (sym is-v)
 
   pub turn-ended : (rollback : Bool)
-      → eachBelow (spreadOf (z .slots) rollback (pairAt z u s o)) (λ r w. spoilOne z s o r w) (withObject u o (endedObject (z .slots) rollback (pairAt z u s o) (objectAt u o)))
+      → eachBelow (slotsAsked (z .slots) rollback (pairAt z u s o)) (λ r w. spoilOne z s o r w) (withObject u o (endedObject (z .slots) rollback (pairAt z u s o) (objectAt u o)))
       ≡ endTurn z rollback s o u
   turn-ended false = each-zero (λ r w. spoilOne z s o r w) _ ∙ plain
   turn-ended true = go (restores (pairAt z u s o)) refl
     where
       go : (b : Bool) → restores (pairAt z u s o) ≡ b
-          → eachBelow (spreadOf (z .slots) true (pairAt z u s o)) (λ r w. spoilOne z s o r w) (withObject u o (endedObject (z .slots) true (pairAt z u s o) (objectAt u o)))
+          → eachBelow (slotsAsked (z .slots) true (pairAt z u s o)) (λ r w. spoilOne z s o r w) (withObject u o (endedObject (z .slots) true (pairAt z u s o) (objectAt u o)))
           ≡ endTurn z true s o u
       go true e =
           let pair : Pair = pairAt z u s o in
           let declared : pair .declared ≡ true = both-true (pair .declared) _ e .0 in
-          let all : spreadOf (z .slots) true pair ≡ z .slots = ap (λ (b : Bool). pick b (z .slots) 0) e in
+          let all : slotsAsked (z .slots) true pair ≡ z .slots = ap (λ (b : Bool). pick b (z .slots) 0) e in
           let object : endedObject (z .slots) true pair (objectAt u o) ≡ ended (z .slots) pair (restored pair (objectAt u o)) =
           λ i. pick (declared i) (ended (z .slots) pair (pick (e i) (restored pair (objectAt u o)) (objectAt u o))) (objectAt u o) in
           (λ i. eachBelow (all i) (λ r w. spoilOne z s o r w) (withObject u o (object i))) ∙ back e

@@ -11,7 +11,7 @@ ghost use Rattle.leaf_end.specs.Serving.Standings.{standingOfNone, stand
 ghost use Rattle.answers.specs.declared.Verdict.the-variants.{Passes, Refuses};
 ghost use mathlib.Core.Bool.{_&&_};
 ghost use Rattle.objects.specs.Places.{restores};
-ghost use Rattle.leaf_end.specs.Serving.Ends.{endedObject, spreadOf};
+ghost use Rattle.leaf_end.specs.Serving.Ends.{endedObject, slotsAsked};
 use answers::Refusal;
 use answers::Verdict;
 use answers::either;
@@ -148,8 +148,8 @@ pub fn object(slots: u8, rollback: bool, pair: Pair, object: Object) -> Object
 }
 
 // R17: how many slots are asked whether they are spoiled: all where the end puts a word back, else none.
-pub fn spread(slots: u8, rollback: bool, pair: Pair) -> u8
-    ensures { λ r. ⌜ r ≡ spreadOf slots rollback pair ⌝ }
+pub fn slots_asked(slots: u8, rollback: bool, pair: Pair) -> u8
+    ensures { λ r. ⌜ r ≡ slotsAsked slots rollback pair ⌝ }
 {
     if puts_back(rollback, pair) {
         return slots;

@@ -17,7 +17,7 @@ use Rattle.rules.specs.Walks.{eachBelow}
 use Rattle.rules.specs.Effects.{spoilOne}
 use Rattle.rules.proofs.Picking.{pick-seen}
 use Rattle.rules.proofs.Stores.{Sized, place-apart, pair-elsewhere}
-use Rattle.leaf_end.specs.Serving.Ends.{endedObject, spreadOf, endCleared}
+use Rattle.leaf_end.specs.Serving.Ends.{endedObject, slotsAsked, endCleared}
 use Rattle.leaf_end.proofs.EndTurns.{turn-ended}
 use Rattle.tables.specs.Serving.Changes.{spoilCaller}
 
@@ -81,20 +81,20 @@ module _ (z : Size) (s o : ℕ) (object : o < z .objects) where
           ∙ ap cleared (sym (other-spoiled n others e))
 
   -- the object stored, its callers spoiled and the slot's pair zero are one turn of the end
-  pub turned : (rollback : Bool) (t : State) → Sized z t → (pair none : Pair) (before after : Object) (spread : ℕ)
+  pub turned : (rollback : Bool) (t : State) → Sized z t → (pair none : Pair) (before after : Object) (asked : ℕ)
       → pair ≡ pairAt z t s o → before ≡ objectAt t o → after ≡ endedObject (z .slots) rollback pair before
-      → spread ≡ spreadOf (z .slots) rollback pair → none ≡ noPair
-      → withPair z (eachBelow spread (λ r u. spoilCaller z o r u) (withObject t o after)) s o none ≡ endCleared z rollback s o t
+      → asked ≡ slotsAsked (z .slots) rollback pair → none ≡ noPair
+      → withPair z (eachBelow asked (λ r u. spoilCaller z o r u) (withObject t o after)) s o none ≡ endCleared z rollback s o t
   unfolding cleared
-  turned rollback t sized pair none before after spread is-pair is-before is-after is-spread is-none =
-      (λ i. withPair z (eachBelow (is-spread i) (λ r u. spoilCaller z o r u) (withObject t o (is-after i))) s o (is-none i))
-      ∙ callers (spreadOf (z .slots) rollback pair) (withObject t o (endedObject (z .slots) rollback pair before))
-      ∙ (λ i. cleared (eachBelow (spreadOf (z .slots) rollback (is-pair i)) (λ r u. spoilOne z s o r u) (withObject t o (endedObject (z .slots) rollback (is-pair i) (is-before i)))))
+  turned rollback t sized pair none before after asked is-pair is-before is-after is-asked is-none =
+      (λ i. withPair z (eachBelow (is-asked i) (λ r u. spoilCaller z o r u) (withObject t o (is-after i))) s o (is-none i))
+      ∙ callers (slotsAsked (z .slots) rollback pair) (withObject t o (endedObject (z .slots) rollback pair before))
+      ∙ (λ i. cleared (eachBelow (slotsAsked (z .slots) rollback (is-pair i)) (λ r u. spoilOne z s o r u) (withObject t o (endedObject (z .slots) rollback (is-pair i) (is-before i)))))
       ∙ ap cleared (turn-ended z s o t sized object rollback)
 
 -- as many slots are asked as there are, or none
-pub spread-inside : (slots : ℕ) (rollback : Bool) (pair : Pair) → spreadOf slots rollback pair ≤ slots
-spread-inside slots rollback pair = go (rollback && restores pair)
+pub asked-inside : (slots : ℕ) (rollback : Bool) (pair : Pair) → slotsAsked slots rollback pair ≤ slots
+asked-inside slots rollback pair = go (rollback && restores pair)
   where
     go : (b : Bool) → pick b slots 0 ≤ slots
     go true = omega arith

@@ -115,6 +115,7 @@ fn settle_one(
         tables::object_at(words, size, o),
     );
     tables::store_object(words, size, o, object);
-    columns::spoil_callers(marks, size, o, leaf_end::spread(size.slots, rollback, pair));
+    let asked = leaf_end::slots_asked(size.slots, rollback, pair);
+    columns::spoil_callers(marks, size, o, asked);
     tables::store_pair(words, bytes, marks, size, s, o, Pair::none());
 }

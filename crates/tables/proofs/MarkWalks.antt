@@ -105,9 +105,9 @@ module _ (z : Size) (w b : List ℕ) (k : List Bool) where
             (ap (view z w b) (set-getD k (spoiledPlace z (r * z .objects + o)) false))
 
 -- what the walk along an object's callers keeps: where it stands in both columns, and that the slots that it has passed are spoiled
-pub record Spoiling (z : Size) (o spread r called spoiled : ℕ) (k₀ k : List Bool) : Type 0 where
-  pub within : spread ≤ z .slots
-  pub reached : r ≤ spread
+pub record Spoiling (z : Size) (o asked r called spoiled : ℕ) (k₀ k : List Bool) : Type 0 where
+  pub within : asked ≤ z .slots
+  pub reached : r ≤ asked
   pub object : o < z .objects
   pub called-at : called ≡ calledPlace z (r * z .objects + o)
   pub spoiled-at : spoiled ≡ spoiledPlace z (r * z .objects + o)
@@ -122,7 +122,7 @@ pub record Inside (z : Size) (k : List Bool) (r called spoiled : ℕ) : Type 0 w
   pub order : called ≤ spoiled
   pub few : length k < 200000
 
-module _ (z : Size) (o spread r called spoiled : ℕ) (k₀ k : List Bool) (spoiling : Spoiling z o spread r called spoiled k₀ k) (more : r < spread) where
+module _ (z : Size) (o asked r called spoiled : ℕ) (k₀ k : List Bool) (spoiling : Spoiling z o asked r called spoiled k₀ k) (more : r < asked) where
   pub inside : Inside z k r called spoiled
   inside =
       let pair : r * z .objects + o < z .slots * z .objects =
@@ -136,7 +136,7 @@ module _ (z : Size) (o spread r called spoiled : ℕ) (k₀ k : List Bool) (spoi
       }
 
   pub spoils-on : (x : Bool) → x ≡ pick (mark k r && mark k called) true (mark k spoiled)
-      → Spoiling z o spread (r + 1) (called + z .objects) (spoiled + z .objects) k₀ (set k spoiled x)
+      → Spoiling z o asked (r + 1) (called + z .objects) (spoiled + z .objects) k₀ (set k spoiled x)
   spoils-on x is-x =
       record {
         within = spoiling .within;

@@ -1,4 +1,4 @@
--- Where each part of the tables stands in three lists, of words, of bytes and of marks. The pair of slot s and object o has the number
+-- Where each part of the tables (R4) stands in three lists, of words, of bytes and of marks. The pair of slot s and object o has the number
 -- s * objects + o.
 use Prim.Native.Nat.{ℕ, _+_, _*_}
 use mathlib.Core.Bool.{Bool}

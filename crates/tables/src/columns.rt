@@ -28,15 +28,15 @@ pub fn doomed(marks: &[bool], size: Size, s: u32) -> bool
     found
 }
 
-// R17: of the first so many slots, each that is live and has called object o is spoiled on it.
-pub fn spoil_callers(marks: &mut [bool], size: Size, o: u32, spread: u8)
-    requires { ⌜ (length (now marks) ≡ marksLong size) × (o < size .objects) × (spread ≤ size .slots) ⌝ }
-    ensures { λ _. ⌜ MarksBecome size (now (marks .entry)) (now (marks .exit)) (eachBelow spread (λ r u. spoilCaller size o r u)) ⌝ }
+// R17: of the slots asked, the first so many, each that is live and has called object o is spoiled on it.
+pub fn spoil_callers(marks: &mut [bool], size: Size, o: u32, asked: u8)
+    requires { ⌜ (length (now marks) ≡ marksLong size) × (o < size .objects) × (asked ≤ size .slots) ⌝ }
+    ensures { λ _. ⌜ MarksBecome size (now (marks .entry)) (now (marks .exit)) (eachBelow asked (λ r u. spoilCaller size o r u)) ⌝ }
 {
     let mut called = places::called(size, o);
     let mut spoiled = places::spoiled(size, o);
     let mut r: u32 = 0;
-    while r < spread as u32 {
+    while r < asked as u32 {
         let at = spoiled as usize;
         marks[at] = spoil(marks[r as usize], marks[called as usize], marks[at]);
         called = called + size.objects as u32;

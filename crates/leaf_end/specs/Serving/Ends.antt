@@ -15,8 +15,8 @@ endedObject slots rollback pair object =
     pick (pair .declared) (ended slots pair (pick (rollback && restores pair) (restored pair object) object)) object
 
 -- how many slots are asked whether R17 spoils them
-abbrev pub spreadOf : ℕ → Bool → Pair → ℕ
-spreadOf slots rollback pair = pick (rollback && restores pair) slots 0
+abbrev pub slotsAsked : ℕ → Bool → Pair → ℕ
+slotsAsked slots rollback pair = pick (rollback && restores pair) slots 0
 
 -- what an end does on one object, and the slot's pair on it zero
 abbrev pub endCleared : Size → Bool → ℕ → ℕ → State → State

@@ -6,7 +6,7 @@ use Rattle.rules.specs.Walks.{eachBelow}
 use Rattle.tables.specs.Views.{view}
 use Rattle.tables.specs.Serving.Changes.{spoilCaller}
 use Rattle.tables.proofs.Viewing.{sized}
-use Rattle.step_end.proofs.Callers.{turned, spread-inside}
+use Rattle.step_end.proofs.Callers.{turned, asked-inside}
 use borrow.Author.Needs.{needs}
 use Rattle.step_end.proofs.settle_one.Statement.{statement}
 use Rattle.step_end.proofs.settle_one.Tie as tie
@@ -14,11 +14,8 @@ use Rattle.step_end.proofs.settle_one.Tie as tie
 abbrev begin : tie.After-object → tie.Start
 begin c = c .before .before .before .before .before .before .before .before .before .before
 
-abbrev spread : tie.After-store-pair-arg3 → tie.After-spread
-spread c = c .before .before .before .before .before .before
-
-abbrev stored : tie.After-spread → tie.After-store-object
-stored c = c .before .before .before .before
+abbrev stored : tie.After-slots-asked → tie.After-store-object
+stored c = c .before .before .before
 
 store-object-requires : tie.Need-store-object-requires
 store-object-requires c κs =
@@ -27,27 +24,28 @@ store-object-requires c κs =
 
 spoil-callers-requires : tie.Need-spoil-callers-requires
 spoil-callers-requires c κs =
-    let object = stored c .before .before in
+    let asked = c .before in
+    let object = stored asked .before .before in
     let start = begin object in
     let pair = object .before .before .before in (
       start .pre .0 .2,
       start .pre .2,
-      omega (arith, c .spread .ensures, spread-inside (start .args .size .slots) (start .args .rollback) (pair .pair-at .result)),
+      omega (arith, asked .slots-asked .ensures, asked-inside (start .args .size .slots) (start .args .rollback) (pair .pair-at .result)),
     )
 
 store-pair-requires : tie.Need-store-pair-requires
 store-pair-requires c κs =
     let spoiled = c .before .before .before .before .before .before in
-    let object = stored (spoiled .before) .before .before in
-    let start = begin object in
-    ((stored (spoiled .before) .store-object .ensures .0, start .pre .0 .1, spoiled .spoil-callers .ensures .0), start .pre .1, start .pre .2)
+    let word = stored (spoiled .before .before) in
+    let start = begin (word .before .before) in
+    ((word .store-object .ensures .0, start .pre .0 .1, spoiled .spoil-callers .ensures .0), start .pre .1, start .pre .2)
 
 returns : tie.Need-returns
 returns c =
     let last = c .before .before .before .before .before .before in
     let none = last .before in
     let spoiled = none .before .before .before .before .before .before in
-    let asked = spoiled .before in
+    let asked = spoiled .before .before in
     let word = stored asked in
     let object = word .before .before in
     let pair = object .before .before .before in
@@ -57,11 +55,11 @@ returns c =
       last .store-pair .ensures .0,
       last .store-pair .ensures .1
           ∙ ap (λ (u : State). withPair (a .size) u (a .s) (a .o) (none .none .result)) (spoiled .spoil-callers .ensures .1 (word .store-object .last .0) (a .bytes .now))
-          ∙ ap (λ (u : State). withPair (a .size) (eachBelow (asked .spread .result) (λ r w. spoilCaller (a .size) (a .o) r w) u) (a .s) (a .o) (none .none .result))
+          ∙ ap (λ (u : State). withPair (a .size) (eachBelow (asked .slots-asked .result) (λ r w. spoilCaller (a .size) (a .o) r w) u) (a .s) (a .o) (none .none .result))
           (word .store-object .ensures .1 (a .bytes .now) (a .marks .now))
           ∙ turned (a .size) (a .s) (a .o) (start .pre .2) (a .rollback) t (sized (a .size) (a .words .now) (a .bytes .now) (a .marks .now))
-          (pair .pair-at .result) (none .none .result) (object .before .object-at .result) (object .object .result) (asked .spread .result)
-          (pair .pair-at .ensures) (object .before .object-at .ensures) (object .object .ensures) (asked .spread .ensures) (none .none .ensures),
+          (pair .pair-at .result) (none .none .result) (object .before .object-at .result) (object .object .result) (asked .slots-asked .result)
+          (pair .pair-at .ensures) (object .before .object-at .ensures) (object .object .ensures) (asked .slots-asked .ensures) (none .none .ensures),
     )
 
 pub settle-one-spec : {M : Type 1} → statement M

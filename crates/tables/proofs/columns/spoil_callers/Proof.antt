@@ -13,10 +13,10 @@ use Rattle.tables.proofs.columns.spoil_callers.Statement.{statement}
 use Rattle.tables.proofs.columns.spoil_callers.Tie as tie
 
 abbrev Inv-loop : tie.InvT-loop
-Inv-loop marks₀ size o spread called₀ spoiled₀ r₀ marks called spoiled r = Spoiling size o spread r called spoiled marks₀ marks
+Inv-loop marks₀ size o asked called₀ spoiled₀ r₀ marks called spoiled r = Spoiling size o asked r called spoiled marks₀ marks
 
 abbrev μ-loop : tie.MeasureT-loop
-μ-loop marks₀ size o spread called₀ spoiled₀ r₀ marks called spoiled r = spread - r
+μ-loop marks₀ size o asked called₀ spoiled₀ r₀ marks called spoiled r = asked - r
 
 abbrev begin : tie.At-loop Inv-loop μ-loop → tie.Start Inv-loop μ-loop
 begin top = top .before .before .before .before
@@ -40,7 +40,7 @@ stands : (c : tie.In-loop Inv-loop μ-loop)
 stands c =
     let top = c .before in
     let a = begin top .args in
-    inside (a .size) (a .o) (a .spread) (top .loop .r) (top .loop .called) (top .loop .spoiled) (a .marks .now) (top .loop .marks) (top .loop .inv) (c .loop-test .taken)
+    inside (a .size) (a .o) (a .asked) (top .loop .r) (top .loop .called) (top .loop .spoiled) (a .marks .now) (top .loop .marks) (top .loop .inv) (c .loop-test .taken)
 
 cast-at : tie.Need-cast-at Inv-loop μ-loop
 cast-at c = omega (arith, stands c .spoiled-in, stands c .few)
@@ -79,7 +79,7 @@ loop-again c =
     let turn = spoil .before .before .before .before in
     let top = turn .before in
     let a = begin top .args in
-    spoils-on (a .size) (a .o) (a .spread) (top .loop .r) (top .loop .called) (top .loop .spoiled) (a .marks .now) (top .loop .marks) (top .loop .inv)
+    spoils-on (a .size) (a .o) (a .asked) (top .loop .r) (top .loop .called) (top .loop .spoiled) (a .marks .now) (top .loop .marks) (top .loop .inv)
     (turn .loop-test .taken) (spoil .spoil .result) (spoil .spoil .ensures)
 
 same-length : tie.Need-same-length Inv-loop μ-loop
@@ -89,7 +89,7 @@ returns : tie.Need-returns Inv-loop μ-loop
 returns c =
     let top = c .before in
     let a = begin top .args in
-    let all : top .loop .r ≡ a .spread = omega (arith, top .loop .inv .reached, c .loop-test .left) in
+    let all : top .loop .r ≡ a .asked = omega (arith, top .loop .inv .reached, c .loop-test .left) in
     let become = top .loop .inv .become in
     (become .0, λ w b. become .1 w b ∙ ap (λ n. eachBelow n (λ r u. spoilCaller (a .size) (a .o) r u) (view (a .size) w b (a .marks .now))) all)
 
