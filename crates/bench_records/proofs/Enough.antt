@@ -2,19 +2,19 @@
 use Prim.Native.Nat.{ℕ, zero, suc, _+_, _<_, _≤_}
 use mathlib.Core.Bool.{Bool, true, false}
 use mathlib.Core.List.{List, [], _++_}
-use mathlib.Core.Path.{_≡_, refl, sym, ap, _∙_}
+use mathlib.Core.Path.{_≡_, refl, ap}
 use native.Mathlib.Omega.{arith}
 use lib.ListN.{length, drop, length-drop}
 use Rattle.answers.specs.Order.{pick}
-use Rattle.counters.specs.Sizes.{Size, base}
-use Rattle.record_layout.specs.Reading.{framing, reading}
-use Rattle.record_layout.specs.declared.fields.Framing.{Framing}
-use Rattle.record_layout.specs.declared.fields.Framing
-use Rattle.record_frame.proofs.Frames.{not-whole}
+use Rattle.counters.specs.Sizes.{base}
+use Rattle.record_layout.specs.Reading.{reading, listing}
+use Rattle.record_layout.specs.declared.fields.Fields.{Fields}
+use Rattle.record_layout.specs.declared.fields.Fields
+use Rattle.record_layout.specs.declared.fields.Reading.{Reading}
+use Rattle.record_layout.specs.declared.fields.Reading
+use Rattle.record_layout.proofs.WriteBack.{some-taken}
 use Rattle.rules.specs.Tables.{State}
-use Rattle.bench_records.specs.Records.{Answering, framedBytes, recordBytes, sortAt, stopsAt, firstSort, firstStep, benchStep}
-use Rattle.bench_records.specs.declared.records.Sort.{Sort}
-use Rattle.bench_records.specs.declared.records.Sort
+use Rattle.bench_records.specs.Records.{Answering, takenBy, stopsAt, firstRead, firstStep, benchStep}
 use Rattle.bench_lines.specs.Lines.{lineOf}
 use Rattle.bench_records.specs.Bench.{linesFrom}
 use Rattle.bench_records.proofs.Taking.{taken-inside, first-inside}
@@ -24,28 +24,24 @@ record Advances (here : Answering) (bytes : List ℕ) : Type 0 where
   takes : here .stops ≡ false → 0 < here .taken
   inside : here .taken ≤ length bytes
 
-some-bytes : (z : Size) (bytes : List ℕ) → (sortAt (reading z bytes) ≡ Sort.Other → ⊥) → 0 < recordBytes z bytes
-some-bytes z bytes wanted = go (framing z bytes) refl
-  where
-    go : (framed : Framing) → framing z bytes ≡ framed → 0 < framedBytes framed bytes
-    go (Framing.Whole number) e = omega arith
-    go (Framing.Refused refusal) e = absurd (wanted (ap sortAt (not-whole z bytes refusal e .reading-is)))
-
-going : {sort : Sort} → stopsAt sort ≡ false → sort ≡ Sort.Other → ⊥
-going {sort} e is-other =
-    let clash : _≡_ {A = ℕ} 0 1 = ap (λ (b : Bool). pick b 0 1) (sym (ap stopsAt is-other) ∙ e) in
-    omega arith
+stopped : {A : Type 0} → _≡_ {A = Bool} true false → A
+stopped wrong = let clash : _≡_ {A = ℕ} 0 1 = cc in absurd (omega arith)
 
 step-advances : (t : State) (bytes : List ℕ) → Advances (benchStep base t bytes) bytes
-step-advances t bytes = record { takes = λ e. some-bytes base bytes (going {sort = sortAt (reading base bytes)} e); inside = taken-inside base bytes }
+step-advances t bytes = record { takes = go (reading base bytes) refl; inside = taken-inside base bytes }
+  where
+    go : (read : Reading) → reading base bytes ≡ read → stopsAt read ≡ false → 0 < takenBy read
+    go (Reading.Record fields at taken) e going = some-taken base bytes fields at taken e
+    go (Reading.Refused refusal) e going = stopped going
 
 first-advances : (bytes : List ℕ) → Advances (firstStep base bytes) bytes
-first-advances bytes = record { takes = go (sortAt (reading base bytes)) refl; inside = first-inside base bytes }
+first-advances bytes = record { takes = go (reading base bytes) refl; inside = first-inside base bytes }
   where
-    go : (sort : Sort) → sortAt (reading base bytes) ≡ sort → firstSort base sort bytes .stops ≡ false → 0 < firstSort base sort bytes .taken
-    go (Sort.Fresh first) e going = some-bytes base bytes (λ other. let clash : _≡_ {A = ℕ} 0 1 = cc in omega arith)
-    go Sort.Event e going = some-bytes base bytes (λ other. let clash : _≡_ {A = ℕ} 0 1 = cc in omega arith)
-    go Sort.Other e going = let clash : _≡_ {A = ℕ} 0 1 = ap (λ (b : Bool). pick b 0 1) going in absurd (omega arith)
+    go : (read : Reading) → reading base bytes ≡ read → firstRead base read (listing base bytes) .stops ≡ false → 0 < firstRead base read (listing base bytes) .taken
+    go (Reading.Record (Fields.Fresh first) at taken) e going = some-taken base bytes (Fields.Fresh first) at taken e
+    go (Reading.Record (Fields.Event event) at taken) e going = stopped going
+    go (Reading.Record (Fields.Ended tick slot rollback) at taken) e going = stopped going
+    go (Reading.Refused refusal) e going = stopped going
 
 behind-same : (stops : Bool) (x y : List ℕ) → (stops ≡ false → x ≡ y) → pick stops [] x ≡ pick stops [] y
 behind-same true x y same = refl

@@ -1,31 +1,26 @@
 -- A piece of the input that has room for the longest record gives what the whole rest of the input gives: so it may be read piece by piece.
-use Prim.Native.Nat.{ℕ, _+_, _≤_}
+use Prim.Native.Nat.{ℕ, _+_, _-_, _≤_}
 use mathlib.Core.Bool.{Bool, true, false}
 use mathlib.Core.List.{List, [], _++_}
 use mathlib.Core.Path.{_≡_, refl, sym, ap, _∙_}
 use native.Mathlib.Omega.{arith}
 use lib.Dec.{ltb}
-use lib.ListN.{length, take, drop, replicate, length-append, length-drop, List·getD-append}
+use lib.ListN.{length, take, drop, length-append, length-drop, List·getD-append}
 use lib.Seq.{take-append-le, drop-append-le}
 use borrow.Author.Tests.{lt-ltb, le-ltb, ltb-false}
 use Rattle.answers.proofs.Deciding.{Passes, passed}
-use Rattle.answers.specs.Numbers.{accepted, refused}
 use Rattle.answers.specs.Order.{decide}
 use Rattle.answers.specs.declared.Refusal.{Refusal}
 use Rattle.answers.specs.declared.Refusal.the-variants.{BadRecord}
 use Rattle.counters.specs.Sizes.{Size}
 use Rattle.record_layout.specs.Bytes.{halfOf}
 use Rattle.record_layout.specs.Kinds.{kindOf, bodyLimit}
-use Rattle.record_layout.specs.Reading.{lengthField, kindField, frameRules, framing, body, readingOf, reading, listBehind}
-use Rattle.record_layout.specs.declared.fields.Framing.{Framing}
-use Rattle.record_layout.specs.declared.fields.Framing
+use Rattle.record_layout.specs.Reading.{lengthField, kindField, frameRules, body, readingOf, reading, listIn, listing}
 use Rattle.record_layout.specs.declared.fields.Reading.{Reading}
 use Rattle.record_layout.specs.declared.fields.Reading
-use Rattle.rules.specs.Tables.{State, freshTables}
-use Rattle.rules.specs.Steps.{readStep}
-use Rattle.bench_records.specs.Records.{framedBytes, recordBytes, wordsOf, sortAt, stopsAt, notFresh, firstSort, firstStep, endBuffer, benchStep}
-use Rattle.bench_records.specs.declared.records.Sort.{Sort}
-use Rattle.bench_records.specs.declared.records.Sort
+use Rattle.record_layout.proofs.WriteBack.{list-inside, taken-inside}
+use Rattle.rules.specs.Tables.{State}
+use Rattle.bench_records.specs.Records.{firstRead, firstStep, nextRead, benchStep}
 
 half-same : (piece rest : List ℕ) → 2 ≤ length piece → halfOf (piece ++ rest) ≡ halfOf piece
 half-same piece rest h = rw (List·getD-append piece rest 0 0 (omega arith), List·getD-append piece rest 0 1 (omega arith))
@@ -65,9 +60,6 @@ module _ (z : Size) (piece rest : List ℕ) (enough : 4 + bodyLimit z ≤ length
           ∙ same short
           ∙ sym (passed (frameRules z piece) refuse y (passes z piece enough short))
 
-  framing-same : framing z s ≡ framing z piece
-  framing-same = decide-same Framing.Refused (Framing.Whole (kindField s)) (Framing.Whole (kindField piece)) (λ short. ap Framing.Whole kind-same)
-
   body-same : body z s ≡ body z piece
   body-same =
       decide-same (λ refusal. []) (take (lengthField s) (drop 4 s)) (take (lengthField piece) (drop 4 piece))
@@ -80,43 +72,24 @@ module _ (z : Size) (piece rest : List ℕ) (enough : 4 + bodyLimit z ≤ length
       decide-same Reading.Refused (readingOf z (kindOf (kindField s)) (body z s)) (readingOf z (kindOf (kindField piece)) (body z piece))
       (λ short i. readingOf z (kindOf (kind-same i)) (body-same i))
 
-  bytes-same : recordBytes z s ≡ recordBytes z piece
-  bytes-same = ap (λ (framed : Framing). framedBytes framed s) framing-same ∙ go (framing z piece)
+  list-same : listing z s ≡ listing z piece
+  list-same = ap (λ (read : Reading). listIn read s) reading-same ∙ go (reading z piece) refl
     where
-      go : (framed : Framing) → framedBytes framed s ≡ framedBytes framed piece
-      go (Framing.Whole number) = ap (λ (n : ℕ). 4 + n) length-same
-      go (Framing.Refused refusal) = refl
+      go : (read : Reading) → reading z piece ≡ read → listIn read s ≡ listIn read piece
+      go (Reading.Record fields at taken) e =
+          let there : at ≤ taken = list-inside z piece fields at taken e in
+          let inside : taken ≤ length piece = taken-inside z piece fields at taken e in
+          ap (take (taken - at)) (drop-append-le at piece rest (omega arith))
+          ∙ take-append-le (taken - at) (drop at piece) rest (omega (arith, length-drop at piece))
+      go (Reading.Refused refusal) e = refl
 
   prints-same : ltb 0 (length s) ≡ ltb 0 (length piece)
   prints-same = lt-ltb 0 (length s) (omega (arith, also-enough)) ∙ sym (lt-ltb 0 (length piece) (omega arith))
 
   -- a record behind the first
   pub step-of-a-piece : (t : State) → benchStep z t (piece ++ rest) ≡ benchStep z t piece
-  step-of-a-piece t = λ i.
-      record {
-        tables = readStep z t (reading-same i) (listBehind (reading-same i) (body-same i)) endBuffer .tables;
-        reply = readStep z t (reading-same i) (listBehind (reading-same i) (body-same i)) endBuffer .reply;
-        prints = prints-same i;
-        stops = stopsAt (sortAt (reading-same i));
-        taken = bytes-same i;
-      }
-
-  not-fresh-same : notFresh z s ≡ notFresh z piece
-  not-fresh-same = λ i.
-      record { tables = freshTables z (replicate (z .objects) 0) 0; reply = refused BadRecord; prints = true; stops = true; taken = bytes-same i }
+  step-of-a-piece t = λ i. nextRead z t (reading-same i) (list-same i) (prints-same i)
 
   -- and the first
   pub first-of-a-piece : firstStep z (piece ++ rest) ≡ firstStep z piece
-  first-of-a-piece = ap (λ (r : Reading). firstSort z (sortAt r) s) reading-same ∙ go (sortAt (reading z piece))
-    where
-      go : (sort : Sort) → firstSort z sort s ≡ firstSort z sort piece
-      go (Sort.Fresh first) = λ i.
-          record {
-            tables = freshTables z (wordsOf (z .objects) (listBehind (reading-same i) (body-same i))) (first .0);
-            reply = accepted 0;
-            prints = false;
-            stops = false;
-            taken = bytes-same i;
-          }
-      go Sort.Event = not-fresh-same
-      go Sort.Other = not-fresh-same
+  first-of-a-piece = λ i. firstRead z (reading-same i) (list-same i)

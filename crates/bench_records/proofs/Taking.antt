@@ -1,29 +1,30 @@
--- A record takes no more bytes than there are.
+-- A record takes bytes that are there.
 use Prim.Native.Nat.{ℕ, _≤_}
 use mathlib.Core.List.{List}
 use mathlib.Core.Path.{_≡_, refl}
 use native.Mathlib.Omega.{arith}
 use lib.ListN.{length}
 use Rattle.counters.specs.Sizes.{Size}
-use Rattle.record_layout.specs.Reading.{framing, reading}
-use Rattle.record_layout.specs.declared.fields.Framing.{Framing}
-use Rattle.record_layout.specs.declared.fields.Framing
-use Rattle.record_frame.proofs.Frames.{whole}
-use Rattle.bench_records.specs.Records.{framedBytes, recordBytes, sortAt, firstSort, firstStep}
-use Rattle.bench_records.specs.declared.records.Sort.{Sort}
-use Rattle.bench_records.specs.declared.records.Sort
+use Rattle.record_layout.specs.Reading.{reading, listing}
+use Rattle.record_layout.specs.declared.fields.Fields.{Fields}
+use Rattle.record_layout.specs.declared.fields.Fields
+use Rattle.record_layout.specs.declared.fields.Reading.{Reading}
+use Rattle.record_layout.specs.declared.fields.Reading
+use Rattle.record_layout.proofs.WriteBack as read-back
+use Rattle.bench_records.specs.Records.{takenBy, firstRead, firstStep}
 
-pub taken-inside : (z : Size) (bytes : List ℕ) → recordBytes z bytes ≤ length bytes
-taken-inside z bytes = go (framing z bytes) refl
+pub taken-inside : (z : Size) (bytes : List ℕ) → takenBy (reading z bytes) ≤ length bytes
+taken-inside z bytes = go (reading z bytes) refl
   where
-    go : (framed : Framing) → framing z bytes ≡ framed → framedBytes framed bytes ≤ length bytes
-    go (Framing.Whole number) e = whole z bytes number e .is-there
-    go (Framing.Refused refusal) e = omega arith
+    go : (read : Reading) → reading z bytes ≡ read → takenBy read ≤ length bytes
+    go (Reading.Record fields at taken) e = read-back.taken-inside z bytes fields at taken e
+    go (Reading.Refused refusal) e = omega arith
 
 pub first-inside : (z : Size) (bytes : List ℕ) → firstStep z bytes .taken ≤ length bytes
-first-inside z bytes = go (sortAt (reading z bytes))
+first-inside z bytes = go (reading z bytes) refl
   where
-    go : (sort : Sort) → firstSort z sort bytes .taken ≤ length bytes
-    go (Sort.Fresh first) = taken-inside z bytes
-    go Sort.Event = taken-inside z bytes
-    go Sort.Other = taken-inside z bytes
+    go : (read : Reading) → reading z bytes ≡ read → firstRead z read (listing z bytes) .taken ≤ length bytes
+    go (Reading.Record (Fields.Fresh first) at taken) e = read-back.taken-inside z bytes (Fields.Fresh first) at taken e
+    go (Reading.Record (Fields.Event event) at taken) e = omega arith
+    go (Reading.Record (Fields.Ended tick slot rollback) at taken) e = omega arith
+    go (Reading.Refused refusal) e = omega arith

@@ -5,14 +5,14 @@ use Rattle.record_layout.specs.Bytes.{wordBytes}
 use Rattle.record_layout.specs.Fields.{recordOf}
 use Rattle.record_layout.specs.declared.fields.Fields.{Fields}
 use Rattle.record_layout.specs.declared.fields.Fields
-use Rattle.rules.specs.Events.{Event}
+use Rattle.rules.specs.Events.{Handed}
 use Rattle.rules.specs.SessionW.{first, words, events}
 
 abbrev pub wordsBytes : List ℕ → List ℕ
 wordsBytes [] = []
 wordsBytes (word ∷ words) = wordBytes word ++ wordsBytes words
 
-abbrev pub recordsOf : List Event → List ℕ
+abbrev pub recordsOf : List Handed → List ℕ
 recordsOf [] = []
 recordsOf (event ∷ rest) = recordOf (event .fields) (event .list) ++ recordsOf rest
 

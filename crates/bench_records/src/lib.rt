@@ -1,16 +1,18 @@
 // The bench's work on records: what the first one gives, and what each further one gives.
 ghost use mathlib.Core.Path.{_≡_};
+ghost use lib.ListN.{length};
 ghost use Rattle.counters.specs.Sizes.{base};
 ghost use Rattle.machine.specs.Views.{view};
 ghost use Rattle.bench_records.specs.Records.{answered, beginsWith, notFresh, firstStep, benchStep};
 
 mod records;
 
-use crate::records::Sort;
 use answers::Answer;
 use answers::Refusal;
 use counters::Version;
 use machine::Tables;
+use record_layout::fields::Fields;
+use record_layout::fields::Reading;
 
 // What a record gives: the tables, the answer, whether it prints a line, whether it stops the program, and the bytes
 // that it takes.
@@ -26,36 +28,49 @@ pub struct Answered {
 pub fn first(bytes: &[u8]) -> Answered
     ensures { λ r. ⌜ answered r ≡ firstStep base (now (bytes .entry)) ⌝ }
 {
-    match records::sort_at(bytes) {
-        Sort::Fresh(first) => fresh(first, bytes),
-        Sort::Event => not_fresh(bytes),
-        Sort::Other => not_fresh(bytes),
+    let read = record_read::read(bytes);
+    let Reading::Record {
+        fields,
+        list,
+        taken,
+    } = read
+    else {
+        return not_fresh(read.refusal());
+    };
+    match fields {
+        Fields::Fresh { first } => fresh(first, &bytes[list..taken], taken),
+        Fields::Event(_) => not_fresh(Refusal::BadRecord),
+        Fields::Ended {
+            tick: _,
+            slot: _,
+            rollback: _,
+        } => not_fresh(Refusal::BadRecord),
     }
 }
 
-fn fresh(first: Version, bytes: &[u8]) -> Answered
-    ensures { λ r. ⌜ answered r ≡ beginsWith base first (now (bytes .entry)) ⌝ }
+fn fresh(first: Version, list: &[u8], taken: usize) -> Answered
+    requires { ⌜ length (now list) ≡ 96 ⌝ }
+    ensures { λ r. ⌜ answered r ≡ beginsWith base first (now (list .entry)) taken ⌝ }
 {
-    let words = records::words(record_read::list(bytes));
     Answered {
-        tables: events::fresh(first, words),
+        tables: events::fresh(first, records::words(list)),
         answer: Answer::Accepted(0),
         prints: false,
         stops: false,
-        taken: records::taken(bytes),
+        taken,
     }
 }
 
 // There are no tables to go on with, and zeros stand for them.
-fn not_fresh(bytes: &[u8]) -> Answered
-    ensures { λ r. ⌜ answered r ≡ notFresh base (now (bytes .entry)) ⌝ }
+fn not_fresh(refusal: Refusal) -> Answered
+    ensures { λ r. ⌜ answered r ≡ notFresh base refusal ⌝ }
 {
     Answered {
         tables: events::fresh(Version(0), [0; 24]),
-        answer: Answer::Refused(Refusal::BadRecord),
+        answer: Answer::Refused(refusal),
         prints: true,
         stops: true,
-        taken: records::taken(bytes),
+        taken: 0,
     }
 }
 
@@ -64,14 +79,15 @@ pub fn next(tables: Tables, bytes: &[u8]) -> Answered
     ensures { λ r. ⌜ answered r ≡ benchStep base (view tables) (now (bytes .entry)) ⌝ }
 {
     let mut buffer = [0u8; 130];
-    let stepped = events::step_record(tables, bytes, &mut buffer);
+    let read = record_read::read(bytes);
+    let stepped = events::step_read(tables, read, record_read::list_of(read, bytes), &mut buffer);
     let after = stepped.tables;
     let answer = stepped.answer;
     Answered {
         tables: after,
         answer,
         prints: 0 < bytes.len(),
-        stops: records::stops(bytes),
-        taken: records::taken(bytes),
+        stops: records::stops(read),
+        taken: records::taken(read),
     }
 }

@@ -1,81 +1,59 @@
-// What the bench asks of a record beside its step: the bytes that it takes, what it is, whether it stops the program,
-// and the words of a fresh record.
+// What the bench asks of a record beside its step: the bytes that it takes, whether it stops the program, and the words
+// of a fresh record.
 ghost use mathlib.Core.Path.{_≡_};
-ghost use Rattle.counters.specs.Sizes.{base};
-ghost use Rattle.record_layout.specs.Reading.{reading};
-ghost use Rattle.bench_records.specs.Records.{recordBytes, sortOf, sortAt, stopsAt, wordsOf};
-use counters::Version;
-use record_bytes::half;
-use record_bytes::word_at;
+ghost use lib.ListN.{length};
+ghost use Rattle.bench_records.specs.Records.{takenBy, stopsAt, wordsOf};
+use record_bytes::word;
 use record_layout::fields::Fields;
-use record_layout::fields::Framing;
 use record_layout::fields::Reading;
 
-// The frame and the body; nothing where the frame fails.
-pub fn taken(bytes: &[u8]) -> usize
-    ensures { λ r. ⌜ r ≡ recordBytes base (now (bytes .entry)) ⌝ }
+// Nothing where there is no record.
+pub fn taken(read: Reading) -> usize
+    ensures { λ r. ⌜ r ≡ takenBy read ⌝ }
 {
-    let Framing::Whole(_) = record_frame::frame(bytes) else {
+    let Reading::Record {
+        fields: _,
+        list: _,
+        taken,
+    } = read
+    else {
         return 0;
     };
-    4 + half(bytes) as usize
-}
-
-// What a record is to the bench: fresh with its first version, an event, or an end record or none at all.
-pub enum Sort {
-    Fresh(Version),
-    Event,
-    Other,
-}
-
-pub fn sort_at(bytes: &[u8]) -> Sort
-    ensures { λ r. ⌜ r ≡ sortAt (reading base (now (bytes .entry))) ⌝ }
-{
-    let Reading::Fields(fields) = record_read::read(bytes) else {
-        return Sort::Other;
-    };
-    sort_of(fields)
-}
-
-fn sort_of(fields: Fields) -> Sort
-    ensures { λ r. ⌜ r ≡ sortOf fields ⌝ }
-{
-    match fields {
-        Fields::Fresh { first } => Sort::Fresh(first),
-        Fields::Start { slot: _ } => Sort::Event,
-        Fields::Call {
-            slot: _,
-            object: _,
-            kind: _,
-            argument: _,
-        } => Sort::Event,
-        Fields::Release { slot: _, object: _ } => Sort::Event,
-        Fields::Commit { slot: _, tick: _ } => Sort::Event,
-        Fields::Rollback { slot: _, tick: _ } => Sort::Event,
-        Fields::Committed { tick: _, slot: _ } => Sort::Other,
-        Fields::RolledBack { tick: _, slot: _ } => Sort::Other,
-    }
+    taken
 }
 
 // Behind the first record all but an event stops the program.
-pub fn stops(bytes: &[u8]) -> bool
-    ensures { λ r. ⌜ r ≡ stopsAt (sortAt (reading base (now (bytes .entry)))) ⌝ }
+pub fn stops(read: Reading) -> bool
+    ensures { λ r. ⌜ r ≡ stopsAt read ⌝ }
 {
-    match sort_at(bytes) {
-        Sort::Fresh(_) => true,
-        Sort::Event => false,
-        Sort::Other => true,
+    let Reading::Record {
+        fields,
+        list: _,
+        taken: _,
+    } = read
+    else {
+        return true;
+    };
+    match fields {
+        Fields::Fresh { first: _ } => true,
+        Fields::Event(_) => false,
+        Fields::Ended {
+            tick: _,
+            slot: _,
+            rollback: _,
+        } => true,
     }
 }
 
-// The 24 words of a list; past its end a word is 0.
+// The 24 words of a list.
 pub fn words(list: &[u8]) -> [u32; 24]
+    requires { ⌜ length (now list) ≡ 96 ⌝ }
     ensures { λ r. ⌜ r ≡ wordsOf 24 (now (list .entry)) ⌝ }
 {
     let mut words = [0u32; 24];
     let mut o: usize = 0;
     while o < 24 {
-        words[o] = word_at(list, 4 * o);
+        words[o] = word(list, 4 * o);
         o = o + 1;
     }
     words

@@ -10,65 +10,68 @@ use Rattle.record_layout.specs.declared.fields.Reading.{Reading}
 use Rattle.record_read.proofs.Refusing.{only-bad-record}
 use Rattle.rules.specs.Tables.{State}
 use Rattle.rules.specs.Steps.{Outcome, unchanged, beside, readStep, recordStep}
-use Rattle.rules.specs.Events.{Event, outcomeOf}
+use Rattle.rules.specs.Events.{Handed, outcomeOf}
 use Rattle.runs.specs.Histories.{History}
 use Rattle.runs.specs.Runs.{Run, stepped, runFrom, runOf}
-use Rattle.runs.specs.Statements.{EveryRun}
+use Rattle.runs.specs.Demands.{Demands}
+use Rattle.runs.specs.Companions.{Companions}
 use Rattle.runs.proofs.EveryRun.{every-run-of-the-pump}
 use Rattle.machine.specs.Views.{view}
 use Rattle.events.specs.Promises.{FreshGives}
-use Rattle.code_runs.specs.Folds.{Given, Folded, lastTables, outcomesGiven, outcomesFrom, notedFrom, CodeRuns, codeRun, Handed, eventRead, eventHanded, FoldedRecords}
+use Rattle.code_runs.specs.Folds.{Given, Folded, lastTables, outcomesGiven, outcomesFrom, notedFrom, CodeRuns, codeRun, HandedBytes, handedRead, handedOf, FoldedRecords}
 use Rattle.machine.specs.declared.Tables.{Tables}
 
 -- the tables and the history that a fold leaves are those of the rules' run
-pub folded-run : (t : Tables) (history : History) (events : List Event) (given : List Given) → Folded t events given
+pub folded-run : (t : Tables) (history : History) (events : List Handed) (given : List Given) → Folded t events given
     → _≡_ {A = Run} (record { tables = view (lastTables t given); history = notedFrom history events given })
     (runFrom base (record { tables = view t; history = history }) events)
 folded-run t history [] [] folded = refl
 folded-run t history [] (given ∷ rest) folded = absurd folded
-folded-run t history (event ∷ events) [] folded = absurd folded
-folded-run t history (event ∷ events) (given ∷ rest) folded =
-    folded-run (given .stepped .tables) (notedFrom history (event ∷ []) (given ∷ [])) events rest (folded .1)
-    ∙ ap (λ (outcome : Outcome). runFrom base (stepped event outcome history) events) (folded .0)
+folded-run t history (handed ∷ events) [] folded = absurd folded
+folded-run t history (handed ∷ events) (given ∷ rest) folded =
+    folded-run (given .stepped .tables) (notedFrom history (handed ∷ []) (given ∷ [])) events rest (folded .1)
+    ∙ ap (λ (outcome : Outcome). runFrom base (stepped handed outcome history) events) (folded .0)
 
 -- and the tables, the reply and the buffer of every step are those of the rules
-pub folded-outcomes : (t : Tables) (events : List Event) (given : List Given) → Folded t events given
+pub folded-outcomes : (t : Tables) (events : List Handed) (given : List Given) → Folded t events given
     → outcomesGiven given ≡ outcomesFrom base (view t) events
 folded-outcomes t [] [] folded = refl
 folded-outcomes t [] (given ∷ rest) folded = absurd folded
-folded-outcomes t (event ∷ events) [] folded = absurd folded
-folded-outcomes t (event ∷ events) (given ∷ rest) folded =
+folded-outcomes t (handed ∷ events) [] folded = absurd folded
+folded-outcomes t (handed ∷ events) (given ∷ rest) folded =
     let behind = folded-outcomes (given .stepped .tables) events rest (folded .1)
     ∙ ap (λ (outcome : Outcome). outcomesFrom base (outcome .tables) events) (folded .0) in
     λ i. folded .0 i ∷ behind i
 
-pub fold-is-run : (words : List ℕ) (first : ℕ) (events : List Event) (code : CodeRuns words first events)
+pub fold-is-run : (words : List ℕ) (first : ℕ) (events : List Handed) (code : CodeRuns words first events)
     → codeRun code ≡ runOf base words first events
 fold-is-run words first events code =
     folded-run (code .fresh) [] events (code .given) (code .steps)
     ∙ ap (λ (t : State). runFrom base (record { tables = t; history = [] }) events) (code .begins)
 
 -- what holds after every run of the rules holds of what the code leaves
-pub carried : (words : List ℕ) (first : ℕ) (P : Run → Type 0) → ((events : List Event) → P (runOf base words first events))
-    → (events : List Event) (code : CodeRuns words first events) → P (codeRun code)
+pub carried : (words : List ℕ) (first : ℕ) (P : Run → Type 0) → ((events : List Handed) → P (runOf base words first events))
+    → (events : List Handed) (code : CodeRuns words first events) → P (codeRun code)
 carried words first P holds events code = subst P (sym (fold-is-run words first events code)) (holds events)
 
--- all that is stated of every run
+-- so demands and companions do
 pub every-run-of-the-code : (words : List ℕ) (first : ℕ) → length words ≡ 24 → first < turnover
-    → (events : List Event) (code : CodeRuns words first events) → EveryRun base words first (codeRun code)
-every-run-of-the-code words first all small = carried words first (EveryRun base words first) (every-run-of-the-pump words first all small)
+    → (events : List Handed) (code : CodeRuns words first events)
+    → Demands base words (codeRun code) × Companions base first (codeRun code)
+every-run-of-the-code words first all small =
+    carried words first (λ run. Demands base words run × Companions base first run) (every-run-of-the-pump words first all small)
 
-record-is-event : (t : State) (handed : Handed) → recordStep base t (handed .bytes) (handed .buffer) ≡ outcomeOf base t (eventHanded handed)
+record-is-event : (t : State) (handed : HandedBytes) → recordStep base t (handed .bytes) (handed .buffer) ≡ outcomeOf base t (handedOf handed)
 record-is-event t handed = go (reading base (handed .bytes)) refl
   where
     go : (found : Reading) → reading base (handed .bytes) ≡ found
         → readStep base t found (listing base (handed .bytes)) (handed .buffer)
-        ≡ outcomeOf base t (eventRead found (listing base (handed .bytes)) (handed .buffer))
-    go (Reading.Fields fields) e = refl
+        ≡ outcomeOf base t (handedRead found (listing base (handed .bytes)) (handed .buffer))
+    go (Reading.Record fields place taken) e = refl
     go (Reading.Refused refusal) e = ap (λ x. beside (handed .buffer) (unchanged t x)) (only-bad-record base (handed .bytes) refusal e)
 
-pub folded-records : (t : Tables) (records : List Handed) (given : List Given) → FoldedRecords t records given
-    → Folded t (map eventHanded records) given
+pub folded-records : (t : Tables) (records : List HandedBytes) (given : List Given) → FoldedRecords t records given
+    → Folded t (map handedOf records) given
 folded-records t [] [] folded = tt
 folded-records t [] (given ∷ rest) folded = absurd folded
 folded-records t (handed ∷ records) [] folded = absurd folded
@@ -76,7 +79,7 @@ folded-records t (handed ∷ records) (given ∷ rest) folded =
     (folded .0 ∙ record-is-event (view t) handed, folded-records (given .stepped .tables) records rest (folded .1))
 
 -- so all of this holds of steps by bytes too
-pub records-run : (words : List ℕ) (first : ℕ) (records : List Handed) (fresh : Tables) (given : List Given)
-    → FreshGives first words fresh → FoldedRecords fresh records given → CodeRuns words first (map eventHanded records)
+pub records-run : (words : List ℕ) (first : ℕ) (records : List HandedBytes) (fresh : Tables) (given : List Given)
+    → FreshGives first words fresh → FoldedRecords fresh records given → CodeRuns words first (map handedOf records)
 records-run words first records fresh given begins folded =
     record { fresh = fresh; given = given; begins = begins; steps = folded-records fresh records given folded }

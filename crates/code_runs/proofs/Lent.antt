@@ -9,7 +9,7 @@ use Rattle.record_layout.specs.declared.fields.Fields.{Fields}
 use Rattle.machine.specs.declared.Tables.{Tables}
 use Rattle.pump.specs.Held.{held, leftWith}
 use Rattle.rules.specs.Tables.{freshTables}
-use Rattle.rules.specs.Steps.{eventStep, recordStep}
+use Rattle.rules.specs.Steps.{fieldsStep, recordStep}
 use Rattle.events.specs.Promises.{FreshGives, StepGives, RecordGives}
 
 abbrev pub memory : List ℕ → List ℕ → List Bool → Tables
@@ -20,7 +20,7 @@ module _ (w b w′ b′ : List ℕ) (k k′ : List Bool) where
   fresh-lent words first e = e
 
   pub step-lent : (fields : Fields) (list buffer buffer′ : List ℕ) (answer : Answer)
-      → leftWith w′ b′ k′ answer buffer′ ≡ eventStep base (held w b k) fields list buffer
+      → leftWith w′ b′ k′ answer buffer′ ≡ fieldsStep base (held w b k) fields list buffer
       → StepGives (memory w b k) fields list buffer (record { tables = memory w′ b′ k′; answer = answer }) buffer′
   step-lent fields list buffer buffer′ answer e = e
 

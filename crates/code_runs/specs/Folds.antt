@@ -1,4 +1,4 @@
--- Folding the machine's steps over events, from its own fresh: each step goes in with the tables that the one before returned.
+-- Folding the steps of the machine over what is handed in, from its own fresh: each step goes in with the tables that the one before returned.
 use Prim.Native.Nat.{ℕ}
 use mathlib.Core.List.{List, [], _∷_, map}
 use Rattle.answers.specs.Numbers.{replyOf}
@@ -8,7 +8,7 @@ use Rattle.record_layout.specs.declared.fields.Fields.{Fields}
 use Rattle.record_layout.specs.declared.fields.Reading.{Reading}
 use Rattle.rules.specs.Tables.{State}
 use Rattle.rules.specs.Steps.{Outcome}
-use Rattle.rules.specs.Events.{Event, outcomeOf}
+use Rattle.rules.specs.Events.{Handed, outcomeOf}
 use Rattle.runs.specs.Histories.{History, noted}
 use Rattle.runs.specs.Runs.{Run}
 use Rattle.machine.specs.Views.{view, ended}
@@ -22,12 +22,12 @@ pub record Given : Type 0 where
   pub buffer : List ℕ
 
 -- each step meets its promise on the tables that it was handed, and hands on those that it returned
-abbrev pub Folded : Tables → List Event → List Given → Type 0
+abbrev pub Folded : Tables → List Handed → List Given → Type 0
 Folded t [] [] = Unit {0}
 Folded t [] (given ∷ rest) = ⊥
-Folded t (event ∷ events) [] = ⊥
-Folded t (event ∷ events) (given ∷ rest) =
-    StepGives t (event .fields) (event .list) (event .buffer) (given .stepped) (given .buffer) × Folded (given .stepped .tables) events rest
+Folded t (handed ∷ events) [] = ⊥
+Folded t (handed ∷ events) (given ∷ rest) =
+    StepGives t (handed .fields) (handed .list) (handed .buffer) (given .stepped) (given .buffer) × Folded (given .stepped .tables) events rest
 
 abbrev pub lastTables : Tables → List Given → Tables
 lastTables t [] = t
@@ -38,43 +38,43 @@ abbrev pub outcomesGiven : List Given → List Outcome
 outcomesGiven given = map (λ one. ended (one .stepped) (one .buffer)) given
 
 -- the outcomes of the rules' steps, one after the other
-abbrev pub outcomesFrom : Size → State → List Event → List Outcome
+abbrev pub outcomesFrom : Size → State → List Handed → List Outcome
 outcomesFrom z t [] = []
-outcomesFrom z t (event ∷ events) = outcomeOf z t event ∷ outcomesFrom z (outcomeOf z t event .tables) events
+outcomesFrom z t (handed ∷ events) = outcomeOf z t handed ∷ outcomesFrom z (outcomeOf z t handed .tables) events
 
 -- the history, made only from the events and what the code gave back
-abbrev pub notedFrom : History → List Event → List Given → History
+abbrev pub notedFrom : History → List Handed → List Given → History
 notedFrom history [] given = history
-notedFrom history (event ∷ events) [] = history
-notedFrom history (event ∷ events) (given ∷ rest) =
-    notedFrom (noted event (replyOf (given .stepped .answer)) (given .buffer) history) events rest
+notedFrom history (handed ∷ events) [] = history
+notedFrom history (handed ∷ events) (given ∷ rest) =
+    notedFrom (noted handed (replyOf (given .stepped .answer)) (given .buffer) history) events rest
 
 -- the code has run over these events: the fresh tables that it returned, and what each of its steps gave back
-pub record CodeRuns (words : List ℕ) (first : ℕ) (events : List Event) : Type 0 where
+pub record CodeRuns (words : List ℕ) (first : ℕ) (events : List Handed) : Type 0 where
   pub fresh : Tables
   pub given : List Given
   pub begins : FreshGives first words fresh
   pub steps : Folded fresh events given
 
 -- the tables and the history that it leaves
-abbrev pub codeRun : {words : List ℕ} {first : ℕ} {events : List Event} → CodeRuns words first events → Run
+abbrev pub codeRun : {words : List ℕ} {first : ℕ} {events : List Handed} → CodeRuns words first events → Run
 codeRun {events = events} code = record { tables = view (lastTables (code .fresh) (code .given)); history = notedFrom [] events (code .given) }
 
 -- an event as bytes: those of a record, and the buffer that it is lent
-pub record Handed : Type 0 where
+pub record HandedBytes : Type 0 where
   pub bytes : List ℕ
   pub buffer : List ℕ
 
 -- the event that is read; bytes that are no record are refused as a fresh record is, which is no event
-abbrev pub eventRead : Reading → List ℕ → List ℕ → Event
-eventRead (Reading.Fields fields) list buffer = record { fields = fields; list = list; buffer = buffer }
-eventRead (Reading.Refused refusal) list buffer = record { fields = Fields.Fresh (record { 0 = 0 }); list = list; buffer = buffer }
+abbrev pub handedRead : Reading → List ℕ → List ℕ → Handed
+handedRead (Reading.Record fields place taken) list buffer = record { fields = fields; list = list; buffer = buffer }
+handedRead (Reading.Refused refusal) list buffer = record { fields = Fields.Fresh (record { 0 = 0 }); list = list; buffer = buffer }
 
-abbrev pub eventHanded : Handed → Event
-eventHanded handed = eventRead (reading base (handed .bytes)) (listing base (handed .bytes)) (handed .buffer)
+abbrev pub handedOf : HandedBytes → Handed
+handedOf handed = handedRead (reading base (handed .bytes)) (listing base (handed .bytes)) (handed .buffer)
 
 -- the same fold by `step_record`
-abbrev pub FoldedRecords : Tables → List Handed → List Given → Type 0
+abbrev pub FoldedRecords : Tables → List HandedBytes → List Given → Type 0
 FoldedRecords t [] [] = Unit {0}
 FoldedRecords t [] (given ∷ rest) = ⊥
 FoldedRecords t (handed ∷ records) [] = ⊥

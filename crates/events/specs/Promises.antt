@@ -4,11 +4,12 @@ use mathlib.Core.List.{List}
 use mathlib.Core.Path.{_≡_}
 use Rattle.counters.specs.Sizes.{base}
 use Rattle.record_layout.specs.declared.fields.Fields.{Fields}
+use Rattle.record_layout.specs.declared.fields.Reading.{Reading}
 use Rattle.machine.specs.Views.{view, ended}
 use Rattle.machine.specs.declared.Tables.{Tables}
 use Rattle.machine.specs.declared.Stepped.{Stepped}
 use Rattle.rules.specs.Tables.{freshTables}
-use Rattle.rules.specs.Steps.{eventStep, recordStep}
+use Rattle.rules.specs.Steps.{fieldsStep, readStep, recordStep}
 
 -- what `fresh` promises of the tables that it returns
 abbrev pub FreshGives : ℕ → List ℕ → Tables → Type 0
@@ -16,7 +17,11 @@ FreshGives first words t = view t ≡ freshTables base words first
 
 -- what `step` promises of what it returns and of the buffer afterwards
 abbrev pub StepGives : Tables → Fields → List ℕ → List ℕ → Stepped → List ℕ → Type 0
-StepGives t fields list buffer r afterwards = ended r afterwards ≡ eventStep base (view t) fields list buffer
+StepGives t fields list buffer r afterwards = ended r afterwards ≡ fieldsStep base (view t) fields list buffer
+
+-- the same of `step_read`
+abbrev pub ReadGives : Tables → Reading → List ℕ → List ℕ → Stepped → List ℕ → Type 0
+ReadGives t read list buffer r afterwards = ended r afterwards ≡ readStep base (view t) read list buffer
 
 -- the same of `step_record`
 abbrev pub RecordGives : Tables → List ℕ → List ℕ → Stepped → List ℕ → Type 0

@@ -1,9 +1,10 @@
-// How a run begins and goes on, by value: fresh tables, an event by its fields, an event by its bytes.
-ghost use Rattle.events.specs.Promises.{FreshGives, StepGives, RecordGives};
+// How a run begins and goes on, by value: fresh tables, an event by its fields, by what was read, and by its bytes.
+ghost use Rattle.events.specs.Promises.{FreshGives, StepGives, ReadGives, RecordGives};
 use counters::Version;
 use machine::Stepped;
 use machine::Tables;
 use record_layout::fields::Fields;
+use record_layout::fields::Reading;
 
 // Given a word for each object and a first version, all three versions of every object are that version and no slot
 // is live.
@@ -29,6 +30,24 @@ pub fn step(tables: Tables, fields: Fields, list: &[u8], buf: &mut [u8]) -> Step
     let mut bytes = tables.bytes;
     let mut marks = tables.marks;
     let answer = pump::events::step(&mut words, &mut bytes, &mut marks, fields, list, buf);
+    Stepped {
+        tables: Tables {
+            words,
+            bytes,
+            marks,
+        },
+        answer,
+    }
+}
+
+// What was read, and the list beside it.
+pub fn step_read(tables: Tables, read: Reading, list: &[u8], buf: &mut [u8]) -> Stepped
+    ensures { λ r. ⌜ ReadGives tables read (now (list .entry)) (now (buf .entry)) r (now (buf .exit)) ⌝ }
+{
+    let mut words = tables.words;
+    let mut bytes = tables.bytes;
+    let mut marks = tables.marks;
+    let answer = pump::events::step_read(&mut words, &mut bytes, &mut marks, read, list, buf);
     Stepped {
         tables: Tables {
             words,

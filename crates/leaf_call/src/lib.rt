@@ -1,11 +1,9 @@
 // What the rules of a call and of a release say, and what an accepted call makes of its object and of its pair.
 ghost use mathlib.Core.Path.{_≡_};
 ghost use Rattle.answers.specs.Order.{decide};
-ghost use Rattle.rules.specs.Refusing.{callRules, releaseRules, turnRules};
-ghost use Rattle.leaf_call.specs.SharedRules.{placeRules};
+ghost use Rattle.rules.specs.Refusing.{placeRules, callRules, releaseRules, turnRules};
 ghost use Rattle.answers.specs.declared.Verdict.the-variants.{Passes, Refuses};
-ghost use Rattle.leaf_call.specs.Calls.{calledWith};
-ghost use Rattle.objects.specs.Places.{countAfter, reaches, calledPair};
+ghost use Rattle.objects.specs.Places.{countAfter, reaches, calledObject, calledPair};
 use answers::Refusal;
 use answers::Verdict;
 use counters::CallCount;
@@ -16,7 +14,7 @@ use counters::Turn;
 use objects::Object;
 use objects::Pair;
 
-// Call: 1, 5, 2, 6, 7, 9, 8, 10.
+// R21: 1, 5, 2, 6, 7, 9, 8, 10.
 pub fn call(
     size: Size,
     slot: SlotNo,
@@ -43,7 +41,7 @@ pub fn call(
     }
 }
 
-// Release: 1, 5, 2, 6, 8, 10.
+// R21: 1, 5, 2, 6, 8, 10.
 pub fn release(
     size: Size,
     slot: SlotNo,
@@ -92,7 +90,7 @@ fn turn(size: Size, pair: Pair, object: Object) -> Verdict
 
 // The word is what the kind leaves, and at the supremum the object is let go.
 pub fn object(object: Object, pair: Pair, word: u32) -> Object
-    ensures { λ r. ⌜ r ≡ calledWith word pair object ⌝ }
+    ensures { λ r. ⌜ r ≡ calledObject word pair object ⌝ }
 {
     let global = object.global;
     let terminal = object.terminal;

@@ -6,7 +6,7 @@ ghost use Rattle.answers.specs.Order.{decide, _when_};
 ghost use Rattle.answers.specs.declared.Refusal.the-variants.{Wait, NoRoom};
 ghost use lib.ListN.{length};
 ghost use Rattle.rules.specs.Refusing.{misses, endRules};
-ghost use Rattle.rules.specs.Effects.{entryOf, endFields};
+ghost use Rattle.rules.specs.Effects.{entryOf};
 ghost use Rattle.leaf_end.specs.Serving.Standings.{standingOfNone, standingWith};
 ghost use Rattle.answers.specs.declared.Verdict.the-variants.{Passes, Refuses};
 ghost use mathlib.Core.Bool.{_&&_};
@@ -19,7 +19,6 @@ use counters::Size;
 use counters::SlotNo;
 use objects::Object;
 use objects::Pair;
-use record_layout::fields::Fields;
 
 // How a slot stands before its end: whether it is doomed (R10), whether it misses its terminal need (R9), and how many
 // bytes the entries of its record have (R27).
@@ -112,16 +111,6 @@ fn last(unmet: bool, short: bool) -> Verdict
         return Verdict::Refuses(Refusal::NoRoom);
     }
     Verdict::Passes
-}
-
-// R27: which record the end writes.
-pub fn fields(rollback: bool, tick: u32, slot: SlotNo) -> Fields
-    ensures { λ r. ⌜ r ≡ endFields rollback tick (slot .0) ⌝ }
-{
-    if rollback {
-        return Fields::RolledBack { tick, slot };
-    }
-    Fields::Committed { tick, slot }
 }
 
 // R17: whether the end puts the saved word of the pair back.

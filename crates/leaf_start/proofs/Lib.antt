@@ -1,2 +1,2 @@
-pub mod PairWalk
+pub mod DeclarationRules
 pub mod StartLoops

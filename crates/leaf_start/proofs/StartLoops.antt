@@ -7,43 +7,43 @@ use mathlib.Core.Path.{_≡_, refl, sym, ap, _∙_}
 use native.Mathlib.Omega.{arith}
 use borrow.Author.Tests.{leb-false}
 use lib.Dec.{leb}
-use lib.ListN.{length, drop, getD, length-drop}
+use lib.ListN.{length, drop, getD}
 use Rattle.answers.proofs.Deciding.{Accepts, decided}
 use Rattle.answers.proofs.Deciding as deciding
 use Rattle.answers.specs.Numbers.{accepted}
 use Rattle.answers.specs.Order.{Rule, decide}
 use Rattle.answers.specs.declared.Refusal.{Refusal}
 use Rattle.counters.specs.Sizes.{Size}
+use Rattle.record_layout.specs.Declarations.{Declaration, declarationsOf}
+use Rattle.record_layout.proofs.DeclarationWalk.{declarations-next, declarations-end}
 use Rattle.rules.specs.Effects.{clearSlot, declareOne, declareAll, startEffect}
-use Rattle.rules.specs.Refusing.{pairRules, startRules}
+use Rattle.rules.specs.Refusing.{startRules}
 use Rattle.rules.specs.Steps.{Stepping, unchanged, startStep}
 use Rattle.rules.specs.Tables.{State, liveAt, withLive}
-use Rattle.leaf_start.specs.Listed.{ListedBelow}
-use Rattle.leaf_start.proofs.PairWalk.{pair-first}
+use Rattle.leaf_start.specs.Serving.Listed.{ListedBelow}
+use Rattle.rules.proofs.Facts.{Rises}
+use Rattle.rules.proofs.Accepted.{StartFits, start-fits}
 use Rattle.answers.proofs.Saying.{when-refuses}
 use Rattle.answers.specs.declared.Verdict.{Verdict}
 use Rattle.answers.specs.declared.Verdict.the-variants.{Passes, Refuses}
 
-passed-within : (z : Size) (least : ℕ) (list : List ℕ) → deciding.Passes (pairRules z least list) → ListedBelow (z .objects) list
-passed-within z least (object ∷ supremum ∷ rest) p = (leb-false _ _ (p .0), passed-within z (object + 1) rest (p .1 .1))
-passed-within z least (object ∷ []) p = tt
-passed-within z least [] p = tt
+rises-below : (z : Size) (least : ℕ) (declarations : List Declaration) → Rises z least declarations → ListedBelow (z .objects) declarations
+rises-below z least [] rises = tt
+rises-below z least (declaration ∷ rest) rises = (rises .inside, rises-below z (declaration .object + 1) rest (rises .behind))
 
--- what the loop keeps: the pairs that are left are declared in the tables as they are now
+-- what the loop keeps: what is left of the list is declared in the tables as they are now
 pub record Declaring (z : Size) (s : ℕ) (list : List ℕ) (next : ℕ) (t₀ t : State) : Type 0 where
   pub reached : next ≤ length list
-  pub within : ListedBelow (z .objects) (drop next list)
-  pub declared : declareAll z s list t₀ ≡ declareAll z s (drop next list) t
-
-declare-none : (z : Size) (s : ℕ) (l : List ℕ) (t : State) → length l ≤ 1 → declareAll z s l t ≡ t
-declare-none z s (object ∷ supremum ∷ rest) t none = absurd (omega arith)
-declare-none z s (object ∷ []) t none = refl
-declare-none z s [] t none = refl
+  pub within : ListedBelow (z .objects) (declarationsOf (drop next list))
+  pub declared : declareAll z s (declarationsOf list) t₀ ≡ declareAll z s (declarationsOf (drop next list)) t
 
 module _ {z : Size} {s : ℕ} {list : List ℕ} {next : ℕ} {t₀ t : State} (declaring : Declaring z s list next t₀ t) where
   module _ (more : 1 < length list - next) where
-    left-within : ListedBelow (z .objects) (getD list next 0 ∷ getD list (next + 1) 0 ∷ drop (next + 2) list)
-    left-within = rw (pair-first list next more) at (declaring .within)
+    abbrev first : Declaration
+    first = record { object = getD list next 0; supremum = getD list (next + 1) 0 }
+
+    left-within : ListedBelow (z .objects) (first ∷ declarationsOf (drop (next + 2) list))
+    left-within = rw (declarations-next list next more) at (declaring .within)
 
     pub next-within : getD list next 0 < z .objects
     next-within = left-within .0
@@ -56,12 +56,12 @@ module _ {z : Size} {s : ℕ} {list : List ℕ} {next : ℕ} {t₀ t : State} (d
           within = left-within .1;
           declared =
               declaring .declared
-              ∙ ap (λ (l : List ℕ). declareAll z s l t) (pair-first list next more)
-              ∙ ap (declareAll z s (drop (next + 2) list)) (sym one);
+              ∙ ap (λ (l : List Declaration). declareAll z s l t) (declarations-next list next more)
+              ∙ ap (declareAll z s (declarationsOf (drop (next + 2) list))) (sym one);
         }
 
-  pub declares-all : length list - next ≤ 1 → t ≡ declareAll z s list t₀
-  declares-all none = sym (declaring .declared ∙ declare-none z s (drop next list) t (rw length-drop none))
+  pub declares-all : length list - next ≤ 1 → t ≡ declareAll z s (declarationsOf list) t₀
+  declares-all none = sym (declaring .declared ∙ ap (λ (l : List Declaration). declareAll z s l t) (declarations-end list next none))
 
 all-pass : (rules : List Rule) → decide rules Refuses Passes ≡ Passes → deciding.Passes rules
 all-pass rules e = go (decided rules)
@@ -99,11 +99,14 @@ module _ {z : Size} {t : State} {slot s : ℕ} {list : List ℕ} {live : Bool} {
     passed : deciding.Passes rules
     passed = all-pass rules (sym (judged .is-verdict) ∙ passes)
 
-    pub list-within : ListedBelow (z .objects) list
-    list-within = passed-within z 0 list (passed .1 .1 .1)
+    fits : StartFits z slot live list
+    fits = start-fits z slot live list .0 passed
 
-    pub start-passed : (t₁ t₂ t₃ : State) → t₁ ≡ clearSlot z s t → t₂ ≡ declareAll z s list t₁ → t₃ ≡ withLive t₂ s true
+    pub list-within : ListedBelow (z .objects) (declarationsOf list)
+    list-within = rises-below z 0 (declarationsOf list) (fits .rises)
+
+    pub start-passed : (t₁ t₂ t₃ : State) → t₁ ≡ clearSlot z s t → t₂ ≡ declareAll z s (declarationsOf list) t₁ → t₃ ≡ withLive t₂ s true
         → record { tables = t₃; reply = accepted 0 } ≡ startStep z t slot list
     start-passed t₁ t₂ t₃ cleared declared lives =
         rw (lives, declared, cleared)
-        (ap begun (judged .right-slot (leb-false _ _ (passed .0))) ∙ sym (deciding.passed rules (unchanged t) (begun slot) passed) ∙ same-rules)
+        (ap begun (judged .right-slot (fits .slot)) ∙ sym (deciding.passed rules (unchanged t) (begun slot) passed) ∙ same-rules)

@@ -1,16 +1,17 @@
 // What the rules of a start say of its slot and its list.
 ghost use mathlib.Core.Path.{_≡_};
 ghost use Rattle.answers.specs.Order.{decide};
-ghost use Rattle.rules.specs.Refusing.{startRules, pairRules};
+ghost use Rattle.record_layout.specs.Declarations.{declarationsOf};
+ghost use Rattle.rules.specs.Refusing.{startRules, declarationRules};
 ghost use Rattle.answers.specs.declared.Verdict.the-variants.{Passes, Refuses};
 use answers::Refusal;
 use answers::Verdict;
 use counters::Size;
 use counters::SlotNo;
 
-// 'Its pairs from the first: object too large (2), not above the one before (3).'
-fn pairs(size: Size, list: &[u8]) -> Verdict
-    ensures { λ r. ⌜ r ≡ decide (pairRules size 0 (now (list .entry))) Refuses Passes ⌝ }
+// R22: of each declaration in turn, 2 and 3.
+fn declarations(size: Size, list: &[u8]) -> Verdict
+    ensures { λ r. ⌜ r ≡ decide (declarationRules size 0 (declarationsOf (now (list .entry)))) Refuses Passes ⌝ }
 {
     let mut least: u8 = 0;
     let mut at: usize = 0;
@@ -28,7 +29,7 @@ fn pairs(size: Size, list: &[u8]) -> Verdict
     Verdict::Passes
 }
 
-// Start: 1, 4, then the list's length (3), then its pairs.
+// R21: 1, 4, 3 by the list's length, then declaration by declaration.
 pub fn verdict(size: Size, slot: SlotNo, live: bool, list: &[u8]) -> Verdict
     ensures { λ r. ⌜ r ≡ decide (startRules size (slot .0) live (now (list .entry))) Refuses Passes ⌝ }
 {
@@ -47,5 +48,5 @@ pub fn verdict(size: Size, slot: SlotNo, live: bool, list: &[u8]) -> Verdict
     if 2 * (size.objects as usize) < list.len() {
         return Verdict::Refuses(Refusal::BadList);
     }
-    pairs(size, list)
+    declarations(size, list)
 }

@@ -7,7 +7,6 @@ use Rattle.counters.specs.Versions.{next, difference, turnAt}
 use Rattle.counters.specs.declared.Version.{Version}
 use Rattle.counters.specs.declared.Turn.{Turn}
 use Rattle.counters.specs.declared.Turn.the-variants.{Now, Wait, Released}
-use Rattle.kinds.specs.Kinds.{acted}
 use Rattle.objects.specs.declared.Object.{Object}
 use Rattle.objects.specs.declared.Pair.{Pair}
 
@@ -46,11 +45,11 @@ countAfter pair = pick (eqb (pair .supremum) 0) (pair .count .0) ((pair .count .
 abbrev pub reaches : Pair → Bool
 reaches pair = not (eqb (pair .supremum) 0) && eqb (countAfter pair) (pair .supremum)
 
--- R13: the object behind a call
-abbrev pub calledObject : ℕ → ℕ → Pair → Object → Object
-calledObject kind argument pair object =
+-- R13: the object behind a call, given the word that the kind leaves
+abbrev pub calledObject : ℕ → Pair → Object → Object
+calledObject word pair object =
     record {
-      word = acted kind (object .word) argument .word;
+      word = word;
       global = object .global;
       local = pick (reaches pair) (pair .private) (object .local);
       terminal = object .terminal;

@@ -9,8 +9,8 @@ use Rattle.answers.specs.Numbers.{replyOf}
 use Rattle.answers.specs.declared.Answer.{Answer}
 use Rattle.counters.specs.Sizes.{base}
 use Rattle.record_layout.specs.declared.fields.Fields.{Fields}
-use Rattle.rules.specs.Steps.{Outcome, eventStep, recordStep}
-use Rattle.rules.proofs.Refused.{AllUnchanged, event-refused, record-refused}
+use Rattle.rules.specs.Steps.{Outcome, fieldsStep, recordStep}
+use Rattle.rules.proofs.Refused.{AllUnchanged, fields-refused, record-refused}
 use Rattle.tables.specs.Places.{Fits}
 use Rattle.tables.proofs.OneToOne.{one-to-one}
 use Rattle.pump.specs.Held.{held, leftWith}
@@ -37,10 +37,10 @@ module _ (w w′ b b′ : List ℕ) (k k′ : List Bool) (fits : Fits base w b k
 
   -- a refused event leaves the memory and the buffer as they came
   pub event-kept : (answer : Answer) (fields : Fields) (list buffer buffer′ : List ℕ)
-      → leftWith w b k answer buffer ≡ eventStep base (held w′ b′ k′) fields list buffer′ → replyOf answer .number ≢ 0
+      → leftWith w b k answer buffer ≡ fieldsStep base (held w′ b′ k′) fields list buffer′ → replyOf answer .number ≢ 0
       → ((w ≡ w′) × (b ≡ b′) × (k ≡ k′)) × (buffer ≡ buffer′)
   event-kept answer fields list buffer buffer′ e =
-      kept answer buffer buffer′ (eventStep base (held w′ b′ k′) fields list buffer′) e (event-refused base (held w′ b′ k′) fields list buffer′)
+      kept answer buffer buffer′ (fieldsStep base (held w′ b′ k′) fields list buffer′) e (fields-refused base (held w′ b′ k′) fields list buffer′)
 
   pub record-kept : (answer : Answer) (bytes buffer buffer′ : List ℕ)
       → leftWith w b k answer buffer ≡ recordStep base (held w′ b′ k′) bytes buffer′ → replyOf answer .number ≢ 0

@@ -1,19 +1,20 @@
 // A body of a known kind: the last checks of reading, its length and its content, and its fields.
+ghost use Prim.Native.Nat.{_≤_};
 ghost use mathlib.Core.Path.{_≡_};
+ghost use lib.Dec.{eqb};
+ghost use lib.ListN.{length};
 ghost use Rattle.counters.specs.Sizes.{base};
-ghost use Rattle.record_layout.specs.Kinds.{itemsOf, bodyLength};
+ghost use Rattle.record_layout.specs.Kinds.{shapeOf, bodyLength};
 ghost use Rattle.record_layout.specs.Fields.{fieldsOf};
 ghost use Rattle.record_layout.specs.Reading.{endRight, contentRight, bodyReading};
+
+mod heads;
+
 use answers::Refusal;
 use counters::OBJECTS;
-use counters::ObjectNo;
 use counters::SLOTS;
-use counters::SlotNo;
-use counters::Version;
-use record_bytes::behind;
 use record_bytes::byte;
 use record_bytes::rise;
-use record_bytes::word_at;
 use record_layout::fields::Fields;
 use record_layout::fields::Reading;
 use record_layout::kind::Kind;
@@ -21,41 +22,39 @@ use record_layout::kind::Kind;
 pub fn read(kind: Kind, b: &[u8]) -> Reading
     ensures { λ r. ⌜ r ≡ bodyReading base kind (now (b .entry)) ⌝ }
 {
-    if b.len() != body_length(kind, b) {
+    if !length_right(kind, b) {
         return Reading::Refused(Refusal::BadRecord);
     }
-    if content_right(kind, b) {
-        Reading::Fields(fields(kind, b))
-    } else {
-        Reading::Refused(Refusal::BadRecord)
+    if !content_right(kind, b) {
+        return Reading::Refused(Refusal::BadRecord);
+    }
+    Reading::Record {
+        fields: fields(kind, b),
+        list: 4 + kind.shape().head as usize,
+        taken: 4 + b.len(),
     }
 }
 
-// How many items the body lists.
-fn items(kind: Kind, b: &[u8]) -> u8
-    ensures { λ r. ⌜ r ≡ itemsOf base kind (now (b .entry)) ⌝ }
-{
-    match kind {
-        Kind::Fresh => OBJECTS,
-        Kind::Start => byte(b, 1),
-        Kind::Call => 0,
-        Kind::Release => 0,
-        Kind::Commit => 0,
-        Kind::Rollback => 0,
-        Kind::Committed => byte(b, 5),
-        Kind::RolledBack => byte(b, 5),
-    }
-}
-
-// The length that the body must have.
-fn body_length(kind: Kind, b: &[u8]) -> usize
-    ensures { λ r. ⌜ r ≡ bodyLength base kind (now (b .entry)) ⌝ }
+// Whether the body has the length that its kind and its n ask for.
+fn length_right(kind: Kind, b: &[u8]) -> bool
+    ensures { λ r. ⌜ r ≡ eqb (length (now (b .entry))) (bodyLength base kind (now (b .entry))) ⌝ }
 {
     let shape = kind.shape();
-    shape.head as usize + shape.item as usize * items(kind, b) as usize
+    let head = shape.head as usize;
+    if b.len() < head {
+        return false;
+    }
+    let listed = b.len() - head;
+    if shape.counted {
+        listed == shape.item as usize * byte(b, head - 1) as usize
+    } else {
+        listed == shape.item as usize * OBJECTS as usize
+    }
 }
 
+// The zero byte of a call, and what an end lists.
 fn content_right(kind: Kind, b: &[u8]) -> bool
+    requires { ⌜ shapeOf kind .head ≤ length (now b) ⌝ }
     ensures { λ r. ⌜ r ≡ contentRight base kind (now (b .entry)) ⌝ }
 {
     match kind {
@@ -63,15 +62,14 @@ fn content_right(kind: Kind, b: &[u8]) -> bool
         Kind::Start => true,
         Kind::Call => byte(b, 3) == 0,
         Kind::Release => true,
-        Kind::Commit => true,
-        Kind::Rollback => true,
-        Kind::Committed => end_right(b),
-        Kind::RolledBack => end_right(b),
+        Kind::End { rollback: _ } => true,
+        Kind::Ended { rollback: _ } => end_right(b),
     }
 }
 
 // Slot, n, objects and their order.
 fn end_right(b: &[u8]) -> bool
+    requires { ⌜ 6 ≤ length (now b) ⌝ }
     ensures { λ r. ⌜ r ≡ endRight base (now (b .entry)) ⌝ }
 {
     if SLOTS <= byte(b, 4) {
@@ -80,44 +78,19 @@ fn end_right(b: &[u8]) -> bool
     if byte(b, 5) == 0 {
         return false;
     }
-    rise(behind(b, 6))
+    rise(&b[6..])
 }
 
 fn fields(kind: Kind, b: &[u8]) -> Fields
+    requires { ⌜ shapeOf kind .head ≤ length (now b) ⌝ }
     ensures { λ r. ⌜ r ≡ fieldsOf kind (now (b .entry)) ⌝ }
 {
     match kind {
-        Kind::Fresh => Fields::Fresh {
-            first: Version(word_at(b, 0)),
-        },
-        Kind::Start => Fields::Start {
-            slot: SlotNo(byte(b, 0)),
-        },
-        Kind::Call => Fields::Call {
-            slot: SlotNo(byte(b, 0)),
-            object: ObjectNo(byte(b, 1)),
-            kind: byte(b, 2),
-            argument: word_at(b, 4),
-        },
-        Kind::Release => Fields::Release {
-            slot: SlotNo(byte(b, 0)),
-            object: ObjectNo(byte(b, 1)),
-        },
-        Kind::Commit => Fields::Commit {
-            slot: SlotNo(byte(b, 0)),
-            tick: word_at(b, 1),
-        },
-        Kind::Rollback => Fields::Rollback {
-            slot: SlotNo(byte(b, 0)),
-            tick: word_at(b, 1),
-        },
-        Kind::Committed => Fields::Committed {
-            tick: word_at(b, 0),
-            slot: SlotNo(byte(b, 4)),
-        },
-        Kind::RolledBack => Fields::RolledBack {
-            tick: word_at(b, 0),
-            slot: SlotNo(byte(b, 4)),
-        },
+        Kind::Fresh => heads::fresh(b),
+        Kind::Start => heads::start(b),
+        Kind::Call => heads::call(b),
+        Kind::Release => heads::release(b),
+        Kind::End { rollback } => heads::end(b, rollback),
+        Kind::Ended { rollback } => heads::ended(b, rollback),
     }
 }

@@ -11,15 +11,16 @@ use Rattle.record_layout.specs.Kinds.{shapeOf, bodyLimit}
 use Rattle.record_layout.specs.Fields.{kindOfFields}
 use Rattle.record_layout.specs.Beside.{itemsBeside, contentBeside}
 use Rattle.record_layout.specs.Writing.{readable}
+use Rattle.record_layout.specs.declared.kind.Kind.{Kind}
+use Rattle.record_layout.specs.declared.kind.Kind.the-variants.{Fresh, Start, Call, Release, End, Ended}
 use Rattle.record_layout.specs.declared.fields.Fields.{Fields}
-use Rattle.record_layout.specs.declared.fields.Fields
 use Rattle.record_layout.proofs.Lengths.{readable-beside}
 
 abbrev head : Fields → ℕ
 head f = shapeOf (kindOfFields f) .head
 
 abbrev wanted : Fields → List ℕ → ℕ
-wanted f list = shapeOf (kindOfFields f) .item * itemsBeside base f (length list)
+wanted f list = shapeOf (kindOfFields f) .item * itemsBeside base (shapeOf (kindOfFields f)) (length list)
 
 pub too-long : (f : Fields) (list : List ℕ) → bodyLimit base < head f + length list → readable base f list ≡ false
 too-long f list h = readable-beside base f list ∙ simp (lt-leb _ _ h)
@@ -31,12 +32,10 @@ pub by-content : (f : Fields) (list : List ℕ) → head f + length list ≤ bod
 by-content f list h e = readable-beside base f list ∙ simp (le-leb _ _ h, eq-eqb _ _ e)
 
 -- items of a list within the limit are few
-pub few-items : (f : Fields) (bytes : ℕ) → bytes ≤ 126 → itemsBeside base f bytes ≤ 126
-few-items (Fields.Fresh first) bytes h = omega arith
-few-items (Fields.Start slot) bytes h = omega arith
-few-items (Fields.Call slot object kind argument) bytes h = omega arith
-few-items (Fields.Release slot object) bytes h = omega arith
-few-items (Fields.Commit slot tick) bytes h = omega arith
-few-items (Fields.Rollback slot tick) bytes h = omega arith
-few-items (Fields.Committed tick slot) bytes h = omega arith
-few-items (Fields.RolledBack tick slot) bytes h = omega arith
+pub few-items : (k : Kind) (bytes : ℕ) → bytes ≤ 126 → itemsBeside base (shapeOf k) bytes ≤ 126
+few-items Fresh bytes h = omega arith
+few-items Start bytes h = omega arith
+few-items Call bytes h = omega arith
+few-items Release bytes h = omega arith
+few-items (End rollback) bytes h = omega arith
+few-items (Ended rollback) bytes h = omega arith

@@ -16,28 +16,28 @@ use Rattle.record_layout.specs.declared.fields.Framing
 use Rattle.record_layout.specs.declared.fields.Reading.{Reading}
 use Rattle.record_layout.specs.declared.fields.Reading
 
-pub record IsWhole (z : Size) (s : List ℕ) (number : ℕ) : Type 0 where
-  pub number-is : kindField s ≡ number
-  pub is-there : 4 + lengthField s ≤ length s
-  pub body-is : body z s ≡ take (lengthField s) (drop 4 s)
+pub record IsWhole (z : Size) (s : List ℕ) (length-told number : ℕ) : Type 0 where
+  pub is-there : 4 + length-told ≤ length s
+  pub body-is : body z s ≡ take length-told (drop 4 s)
   pub place-is : bodyPlace z s ≡ 4
   pub reading-is : reading z s ≡ readingOf z (kindOf number) (body z s)
 
-pub whole : (z : Size) (s : List ℕ) (number : ℕ) → framing z s ≡ Framing.Whole number → IsWhole z s number
-whole z s number e = go (decided (frameRules z s))
+pub whole : (z : Size) (s : List ℕ) (told number : ℕ) → framing z s ≡ Framing.Whole told number → IsWhole z s told number
+whole z s told number e = go (decided (frameRules z s))
   where
-    go : Accepts (frameRules z s) ⊎ Refuses (frameRules z s) → IsWhole z s number
+    go : Accepts (frameRules z s) ⊎ Refuses (frameRules z s) → IsWhole z s told number
     go (inl a) =
-        let same : kindField s ≡ number = cc (a .gives Framing.Refused (Framing.Whole (kindField s))) in
+        let same = a .gives Framing.Refused (Framing.Whole (lengthField s) (kindField s)) in
+        let long : lengthField s ≡ told = cc same in
+        let kind : kindField s ≡ number = cc same in
         record {
-          number-is = same;
-          is-there = ltb-false (length s) (4 + lengthField s) (a .passes .1 .1 .0);
-          body-is = a .gives (λ refusal. []) (take (lengthField s) (drop 4 s));
+          is-there = rw (← long) (ltb-false (length s) (4 + lengthField s) (a .passes .1 .1 .0));
+          body-is = rw (← long) (a .gives (λ refusal. []) (take (lengthField s) (drop 4 s)));
           place-is = a .gives (λ refusal. 0) 4;
-          reading-is = a .gives Reading.Refused (readingOf z (kindOf (kindField s)) (body z s)) ∙ rw same;
+          reading-is = a .gives Reading.Refused (readingOf z (kindOf (kindField s)) (body z s)) ∙ rw kind;
         }
     go (inr r) =
-        let clash : _≡_ {A = ℕ} 0 1 = cc (r .gives Framing.Refused (Framing.Whole (kindField s))) in
+        let clash : _≡_ {A = ℕ} 0 1 = cc (r .gives Framing.Refused (Framing.Whole (lengthField s) (kindField s))) in
         absurd (omega arith)
 
 pub record IsRefused (z : Size) (s : List ℕ) (refusal : Refusal) : Type 0 where
@@ -50,10 +50,10 @@ not-whole z s refusal e = go (decided (frameRules z s))
   where
     go : Accepts (frameRules z s) ⊎ Refuses (frameRules z s) → IsRefused z s refusal
     go (inl a) =
-        let clash : _≡_ {A = ℕ} 0 1 = cc (a .gives Framing.Refused (Framing.Whole (kindField s))) in
+        let clash : _≡_ {A = ℕ} 0 1 = cc (a .gives Framing.Refused (Framing.Whole (lengthField s) (kindField s))) in
         absurd (omega arith)
     go (inr r) =
-        let same : r .refusal ≡ refusal = cc (r .gives Framing.Refused (Framing.Whole (kindField s))) in
+        let same : r .refusal ≡ refusal = cc (r .gives Framing.Refused (Framing.Whole (lengthField s) (kindField s))) in
         record {
           body-is = r .gives (λ refusal. []) (take (lengthField s) (drop 4 s));
           place-is = r .gives (λ refusal. 0) 4;

@@ -4,7 +4,6 @@ ghost use Rattle.counters.specs.Sizes.{base};
 ghost use Rattle.record_layout.specs.Bytes.{IsPart};
 ghost use Rattle.record_layout.specs.Reading.{framing, body, bodyPlace};
 use answers::Refusal;
-use record_bytes::behind;
 use record_bytes::half;
 use record_layout::fields::Framing;
 use record_layout::kind::BODY_LIMIT;
@@ -16,23 +15,25 @@ pub fn frame(s: &[u8]) -> Framing
     if s.len() < 4 {
         return Framing::Refused(Refusal::BadRecord);
     }
-    let length = half(s) as usize;
-    if BODY_LIMIT < length {
+    let length = half(s, 0);
+    if BODY_LIMIT < length as usize {
         return Framing::Refused(Refusal::BadRecord);
     }
-    if s.len() < 4 + length {
+    if s.len() < 4 + length as usize {
         return Framing::Refused(Refusal::BadRecord);
     }
-    Framing::Whole(half(behind(s, 2)))
+    Framing::Whole {
+        length,
+        number: half(s, 2),
+    }
 }
 
 // The body of the first record, as that part of s; an empty part where the frame fails.
 pub fn body(s: &[u8]) -> &[u8]
     ensures { λ r. ⌜ IsPart r (s .entry) (bodyPlace base (now (s .entry))) (body base (now (s .entry))) ⌝ }
 {
-    let Framing::Whole(_) = frame(s) else {
+    let Framing::Whole { length, number: _ } = frame(s) else {
         return &s[..0];
     };
-    let length = half(s) as usize;
-    &s[4..4 + length]
+    &s[4..4 + length as usize]
 }

@@ -7,7 +7,6 @@ ghost use Rattle.record_layout.specs.Kinds.{shapeOf};
 ghost use Rattle.record_layout.specs.Fields.{kindOfFields};
 ghost use Rattle.record_front.specs.Filled.{inOrder};
 use record_layout::fields::Fields;
-use record_layout::fields::shape_of;
 
 pub struct Four(pub u8, pub u8, pub u8, pub u8);
 
@@ -16,7 +15,7 @@ pub fn frame(fields: Fields, bytes: u16) -> Four
     requires { ⌜ bytes ≤ 510 ⌝ }
     ensures { λ r. ⌜ inOrder r ≡ halfBytes (shapeOf (kindOfFields fields) .head + bytes) ++ halfBytes (shapeOf (kindOfFields fields) .number) ⌝ }
 {
-    let shape = shape_of(fields);
+    let shape = fields.shape();
     let length = shape.head as u16 + bytes;
     let number = shape.number;
     Four(

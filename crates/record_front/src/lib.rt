@@ -18,17 +18,11 @@ pub fn front(fields: Fields, bytes: u16) -> [u8; 12]
     let frame = fours::frame(fields, bytes);
     match fields {
         Fields::Fresh { first } => heads::fresh(frame, first),
-        Fields::Start { slot } => heads::two(frame, slot.0, (bytes / 2) as u8),
-        Fields::Call {
+        Fields::Event(event) => heads::event(frame, event, bytes),
+        Fields::Ended {
+            tick,
             slot,
-            object,
-            kind,
-            argument,
-        } => heads::call(frame, slot, object, kind, argument),
-        Fields::Release { slot, object } => heads::two(frame, slot.0, object.0),
-        Fields::Commit { slot, tick } => heads::end(frame, slot, tick),
-        Fields::Rollback { slot, tick } => heads::end(frame, slot, tick),
-        Fields::Committed { tick, slot } => heads::ended(frame, tick, slot, (bytes / 5) as u8),
-        Fields::RolledBack { tick, slot } => heads::ended(frame, tick, slot, (bytes / 5) as u8),
+            rollback: _,
+        } => heads::ended(frame, tick, slot, (bytes / 5) as u8),
     }
 }

@@ -1,32 +1,38 @@
 -- The lengths of what fields make, and whether it is readable told by the fields and the list alone: what code can test before it
 -- makes a body.
-use Prim.Native.Nat.{ℕ, _+_, _*_}
+use Prim.Native.Nat.{ℕ, _+_, _-_, _*_, _<_, _≤_}
 use mathlib.Core.Bool.{Bool, true, false, _&&_}
 use mathlib.Core.List.{List}
-use mathlib.Core.Path.{_≡_, refl, _∙_}
+use mathlib.Core.Path.{_≡_, refl, sym, ap, _∙_}
 use native.Mathlib.Omega.{arith}
 use lib.ListN.{length, length-append}
 use lib.Dec.{leb, eqb}
 use borrow.Author.Tests.{eq-eqb, ne-eqb, eqb-true, eqb-false}
 use Rattle.counters.specs.Sizes.{Size}
-use Rattle.record_layout.specs.Kinds.{shapeOf, itemsOf, bodyLimit}
-use Rattle.record_layout.specs.Fields.{kindOfFields, headOf, frontOf, bodyOf, recordOf}
+use Rattle.record_layout.specs.Kinds.{shapeOf, itemsOf, bodyLength, bodyLimit}
+use Rattle.record_layout.specs.Fields.{kindOfEvent, kindOfFields, eventHead, headOf, frontOf, bodyOf, recordOf}
 use Rattle.record_layout.specs.Reading.{contentRight}
 use Rattle.record_layout.specs.Writing.{readable}
 use Rattle.record_layout.specs.Beside.{itemsBeside, contentBeside}
+use Rattle.record_layout.specs.declared.kind.Kind.{Kind}
+use Rattle.record_layout.specs.declared.kind.Kind.the-variants.{Fresh, Start, Call, Release, End, Ended}
+use Rattle.record_layout.specs.declared.kind.Shape.{Shape}
+use Rattle.record_layout.specs.declared.fields.Event.{Event}
+use Rattle.record_layout.specs.declared.fields.Event
 use Rattle.record_layout.specs.declared.fields.Fields.{Fields}
 use Rattle.record_layout.specs.declared.fields.Fields
 
 -- a head has the bytes that the table of kinds says
 pub length-head : (f : Fields) (bytes : ℕ) → length (headOf f bytes) ≡ shapeOf (kindOfFields f) .head
 length-head (Fields.Fresh first) bytes = refl
-length-head (Fields.Start slot) bytes = refl
-length-head (Fields.Call slot object kind argument) bytes = refl
-length-head (Fields.Release slot object) bytes = refl
-length-head (Fields.Commit slot tick) bytes = refl
-length-head (Fields.Rollback slot tick) bytes = refl
-length-head (Fields.Committed tick slot) bytes = refl
-length-head (Fields.RolledBack tick slot) bytes = refl
+length-head (Fields.Event event) bytes = go event
+  where
+    go : (e : Event) → length (eventHead e bytes) ≡ shapeOf (kindOfEvent e) .head
+    go (Event.Start slot) = refl
+    go (Event.Call slot object kind argument) = refl
+    go (Event.Release slot object) = refl
+    go (Event.End slot tick rollback) = refl
+length-head (Fields.Ended tick slot rollback) bytes = refl
 
 -- a frame of four bytes stands in front of the head
 pub length-front : (f : Fields) (bytes : ℕ) → length (frontOf f bytes) ≡ 4 + shapeOf (kindOfFields f) .head
@@ -40,27 +46,21 @@ length-body f list = length-append (headOf f (length list)) list ∙ rw (length-
 pub length-record : (f : Fields) (list : List ℕ) → length (recordOf f list) ≡ 4 + (shapeOf (kindOfFields f) .head + length list)
 length-record f list = omega (arith, length-body f list)
 
--- the items that a made body lists are those that its list holds
-pub items-beside : (z : Size) (f : Fields) (list : List ℕ) → itemsOf z (kindOfFields f) (bodyOf f list) ≡ itemsBeside z f (length list)
-items-beside z (Fields.Fresh first) list = refl
-items-beside z (Fields.Start slot) list = refl
-items-beside z (Fields.Call slot object kind argument) list = refl
-items-beside z (Fields.Release slot object) list = refl
-items-beside z (Fields.Commit slot tick) list = refl
-items-beside z (Fields.Rollback slot tick) list = refl
-items-beside z (Fields.Committed tick slot) list = refl
-items-beside z (Fields.RolledBack tick slot) list = refl
+-- what a made body says of its items and its content, its list alone says
+record Beside (z : Size) (f : Fields) (list : List ℕ) : Type 0 where
+  items : itemsOf z (shapeOf (kindOfFields f)) (bodyOf f list) ≡ itemsBeside z (shapeOf (kindOfFields f)) (length list)
+  content : contentRight z (kindOfFields f) (bodyOf f list) ≡ contentBeside z f list
 
--- and its content is right where the fields and the list are
-pub content-beside : (z : Size) (f : Fields) (list : List ℕ) → contentRight z (kindOfFields f) (bodyOf f list) ≡ contentBeside z f list
-content-beside z (Fields.Fresh first) list = refl
-content-beside z (Fields.Start slot) list = refl
-content-beside z (Fields.Call slot object kind argument) list = refl
-content-beside z (Fields.Release slot object) list = refl
-content-beside z (Fields.Commit slot tick) list = refl
-content-beside z (Fields.Rollback slot tick) list = refl
-content-beside z (Fields.Committed tick slot) list = refl
-content-beside z (Fields.RolledBack tick slot) list = refl
+beside : (z : Size) (f : Fields) (list : List ℕ) → Beside z f list
+beside z (Fields.Fresh first) list = record { items = refl; content = refl }
+beside z (Fields.Event event) list = go event
+  where
+    go : (e : Event) → Beside z (Fields.Event e) list
+    go (Event.Start slot) = record { items = refl; content = refl }
+    go (Event.Call slot object kind argument) = record { items = refl; content = refl }
+    go (Event.Release slot object) = record { items = refl; content = refl }
+    go (Event.End slot tick rollback) = record { items = refl; content = refl }
+beside z (Fields.Ended tick slot rollback) list = record { items = refl; content = refl }
 
 eqb-behind : (n a b : ℕ) → eqb (n + a) (n + b) ≡ eqb a b
 eqb-behind n a b = go (eqb a b) refl
@@ -75,11 +75,40 @@ eqb-behind n a b = go (eqb a b) refl
 pub readable-beside : (z : Size) (f : Fields) (list : List ℕ)
     → readable z f list
     ≡ (leb (shapeOf (kindOfFields f) .head + length list) (bodyLimit z)
-    && (eqb (length list) (shapeOf (kindOfFields f) .item * itemsBeside z f (length list)) && contentBeside z f list))
+    && (eqb (length list) (shapeOf (kindOfFields f) .item * itemsBeside z (shapeOf (kindOfFields f)) (length list)) && contentBeside z f list))
 readable-beside z f list =
+    let shape : Shape = shapeOf (kindOfFields f) in
     rw (
       length-body f list,
-      items-beside z f list,
-      content-beside z f list,
-      eqb-behind (shapeOf (kindOfFields f) .head) (length list) (shapeOf (kindOfFields f) .item * itemsBeside z f (length list)),
+      beside z f list .items,
+      beside z f list .content,
+      eqb-behind (shape .head) (length list) (shape .item * itemsBeside z shape (length list)),
     )
+
+-- items that are counted have bytes
+pub counted-item : (k : Kind) → shapeOf k .counted ≡ true → 0 < shapeOf k .item
+counted-item Fresh e = let clash : _≡_ {A = ℕ} 0 1 = cc in absurd (omega arith)
+counted-item Start e = omega arith
+counted-item Call e = let clash : _≡_ {A = ℕ} 0 1 = cc in absurd (omega arith)
+counted-item Release e = let clash : _≡_ {A = ℕ} 0 1 = cc in absurd (omega arith)
+counted-item (End rollback) e = let clash : _≡_ {A = ℕ} 0 1 = cc in absurd (omega arith)
+counted-item (Ended rollback) e = omega arith
+
+-- every head has a byte
+pub some-head : (k : Kind) → 0 < shapeOf k .head
+some-head Fresh = omega arith
+some-head Start = omega arith
+some-head Call = omega arith
+some-head Release = omega arith
+some-head (End rollback) = omega arith
+some-head (Ended rollback) = omega arith
+
+-- the length of a body, told by what is left behind its head
+pub by-the-rest : (z : Size) (k : Kind) (b : List ℕ) (shape : Shape) (items : ℕ) → shape ≡ shapeOf k → shape .head ≤ length b → items ≡ itemsOf z shape b
+    → eqb (length b - shape .head) (shape .item * items) ≡ eqb (length b) (bodyLength z k b)
+by-the-rest z k b shape items same there counted =
+    let all : shape .head + (length b - shape .head) ≡ length b = omega arith in
+    sym (eqb-behind (shape .head) (length b - shape .head) (shape .item * items))
+    ∙ ap (λ (n : ℕ). eqb n (shape .head + shape .item * items)) all
+    ∙ ap (λ (n : ℕ). eqb (length b) (shape .head + shape .item * n)) counted
+    ∙ ap (λ (x : Shape). eqb (length b) (x .head + x .item * itemsOf z x b)) same

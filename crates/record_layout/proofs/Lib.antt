@@ -1,4 +1,5 @@
 pub mod EntryWalk
+pub mod DeclarationWalk
 pub mod Lengths
 pub mod LittleEndian
 pub mod Fronts

@@ -8,6 +8,7 @@ use lib.ListN.{length}
 use lib.Dec.{leb, eqb}
 use borrow.Author.Tests.{leb-true, le-leb, not-false}
 use Rattle.answers.proofs.Deciding.{Passes}
+use Rattle.answers.proofs.Tests.{both-true}
 use Rattle.counters.specs.Sizes.{Size}
 use Rattle.record_layout.specs.Kinds.{bodyLength, bodyLimit}
 use Rattle.record_layout.specs.Fields.{kindOfFields, bodyOf}
@@ -20,11 +21,6 @@ use Rattle.record_layout.specs.declared.fields.Fields.{Fields}
 pub record IsRight (z : Size) (k : Kind) (b : List ℕ) : Type 0 where
   pub short : length b ≤ bodyLimit z
   pub passes : Passes (bodyRules z k b)
-
--- where both tests hold, each does
-pub both-true : (a b : Bool) → (a && b) ≡ true → (a ≡ true) × (b ≡ true)
-both-true true b e = (refl, e)
-both-true false b e = let clash : _≡_ {A = ℕ} 0 1 = cc in absurd (omega arith)
 
 -- a readable record has a right body
 pub readable-right : (z : Size) (f : Fields) (list : List ℕ) → readable z f list ≡ true → IsRight z (kindOfFields f) (bodyOf f list)

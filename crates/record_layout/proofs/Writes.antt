@@ -88,13 +88,13 @@ module _ (z : Size) (f : Fields) (list buffer : List ℕ) where
       rw (room-accepted (has .0) (has .1)) (written-reads-back z f list (drop (length (recordOf f list)) buffer) small fit (has .0))
 
 -- what reads writes again the bytes that it was read from
-pub read-writes-again : (z : Size) (s : List ℕ) (f : Fields) (buffer : List ℕ) → AreBytes s → reading z s ≡ Reading.Fields f
+pub read-writes-again : (z : Size) (s : List ℕ) (f : Fields) (at taken : ℕ) (buffer : List ℕ) → AreBytes s → reading z s ≡ Reading.Record f at taken
     → let n : ℕ = length (recordOf f (listing z s)) in
     n ≤ length buffer → writing z f (listing z s) buffer ≡ record { reply = accepted n; buffer = take n s ++ drop n buffer }
-read-writes-again z s f buffer bytes read room =
+read-writes-again z s f at taken buffer bytes read room =
     let written : List ℕ = recordOf f (listing z s) in
     let n : ℕ = length written in
-    let is = read-is-written z s f bytes read in
+    let is = read-is-written z s f at taken read bytes in
     let front : written ≡ take n s = sym (ap (take n) (is .1) ∙ take-append-seam written (drop n s)) in
     room-accepted z f (listing z s) buffer (is .0) room
     ∙ ap (λ (x : List ℕ). record { reply = accepted n; buffer = x ++ drop n buffer }) front

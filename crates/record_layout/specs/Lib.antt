@@ -1,6 +1,7 @@
 pub mod Bytes
 pub mod Kinds
 pub mod Entries
+pub mod Declarations
 pub mod Fields
 pub mod Fitting
 pub mod Reading

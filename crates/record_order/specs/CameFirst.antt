@@ -29,16 +29,11 @@ meetingOf (e ∷ es) fs = meet e fs (meetingOf es fs)
 -- R34: the records of ends
 abbrev pub ofEnd : Fields → Bool
 ofEnd (Fields.Fresh first) = false
-ofEnd (Fields.Start slot) = false
-ofEnd (Fields.Call slot object kind argument) = false
-ofEnd (Fields.Release slot object) = false
-ofEnd (Fields.Commit slot tick) = false
-ofEnd (Fields.Rollback slot tick) = false
-ofEnd (Fields.Committed tick slot) = true
-ofEnd (Fields.RolledBack tick slot) = true
+ofEnd (Fields.Event event) = false
+ofEnd (Fields.Ended tick slot rollback) = true
 
 abbrev pub isEnd : Reading → Bool
-isEnd (Reading.Fields fields) = ofEnd fields
+isEnd (Reading.Record fields list taken) = ofEnd fields
 isEnd (Reading.Refused refusal) = false
 
 -- R34: A is tried before B

@@ -2,8 +2,7 @@
 ghost use mathlib.Core.Path.{_≡_};
 ghost use Rattle.counters.specs.Sizes.{base};
 ghost use Rattle.record_layout.specs.Entries.{entriesOf};
-ghost use Rattle.record_layout.specs.Reading.{reading};
-ghost use Rattle.record_order.specs.CameFirst.{meetingOf, ofEnd, isEnd, cameFirst};
+ghost use Rattle.record_order.specs.CameFirst.{meetingOf, isEnd, cameFirst};
 use answers::Refusal;
 use counters::Comparison;
 use counters::Version;
@@ -21,43 +20,40 @@ pub enum CameFirst {
 pub fn came_first(a: &[u8], b: &[u8]) -> CameFirst
     ensures { λ r. ⌜ r ≡ cameFirst base (now (a .entry)) (now (b .entry)) ⌝ }
 {
-    if !reads_as_end(a) {
+    let read_a = record_read::read(a);
+    if !is_end(read_a) {
         return CameFirst::Refused(Refusal::BadRecord);
     }
-    if !reads_as_end(b) {
+    let read_b = record_read::read(b);
+    if !is_end(read_b) {
         return CameFirst::Refused(Refusal::BadRecord);
     }
-    meeting(record_read::list(a), record_read::list(b))
+    meeting(
+        record_read::list_of(read_a, a),
+        record_read::list_of(read_b, b),
+    )
 }
 
-// R34: whether the bytes read as an end record.
-fn reads_as_end(s: &[u8]) -> bool
-    ensures { λ r. ⌜ r ≡ isEnd (reading base (now (s .entry))) ⌝ }
+// R34: whether the record is what an end has written.
+fn is_end(read: Reading) -> bool
+    ensures { λ r. ⌜ r ≡ isEnd read ⌝ }
 {
-    let Reading::Fields(fields) = record_read::read(s) else {
+    let Reading::Record {
+        fields,
+        list: _,
+        taken: _,
+    } = read
+    else {
         return false;
     };
-    is_end(fields)
-}
-
-// R34: whether a record is of an end.
-fn is_end(fields: Fields) -> bool
-    ensures { λ r. ⌜ r ≡ ofEnd fields ⌝ }
-{
     match fields {
         Fields::Fresh { first: _ } => false,
-        Fields::Start { slot: _ } => false,
-        Fields::Call {
+        Fields::Event(_) => false,
+        Fields::Ended {
+            tick: _,
             slot: _,
-            object: _,
-            kind: _,
-            argument: _,
-        } => false,
-        Fields::Release { slot: _, object: _ } => false,
-        Fields::Commit { slot: _, tick: _ } => false,
-        Fields::Rollback { slot: _, tick: _ } => false,
-        Fields::Committed { tick: _, slot: _ } => true,
-        Fields::RolledBack { tick: _, slot: _ } => true,
+            rollback: _,
+        } => true,
     }
 }
 
@@ -71,8 +67,8 @@ fn meeting(a: &[u8], b: &[u8]) -> CameFirst
         let mut at_b: usize = 0;
         while 4 < b.len() - at_b {
             if a[at_a] == b[at_b] {
-                let version_a = Version(record_bytes::word_at(a, at_a + 1));
-                let version_b = Version(record_bytes::word_at(b, at_b + 1));
+                let version_a = Version(record_bytes::word(a, at_a + 1));
+                let version_b = Version(record_bytes::word(b, at_b + 1));
                 found = CameFirst::Compared(version_a.compare(version_b));
                 break 'outer;
             }

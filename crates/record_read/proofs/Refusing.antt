@@ -1,5 +1,6 @@
 -- A reading refuses by one refusal alone.
-use Prim.Native.Nat.{ℕ}
+use Prim.Native.Nat.{ℕ, _+_}
+use lib.ListN.{length}
 use mathlib.Core.Bool.{Bool, true, false}
 use mathlib.Core.List.{List, [], _∷_}
 use mathlib.Core.Path.{_≡_, refl, subst}
@@ -8,7 +9,7 @@ use Rattle.answers.specs.declared.Refusal.{Refusal}
 use Rattle.answers.specs.declared.Refusal.the-variants.{BadRecord}
 use Rattle.counters.specs.Sizes.{Size}
 use Rattle.record_layout.specs.Kinds.{kindOf}
-use Rattle.record_layout.specs.Fields.{fieldsOf}
+use Rattle.record_layout.specs.Fields.{fieldsOf, listPlace}
 use Rattle.record_layout.specs.Reading.{kindField, frameRules, bodyRules, body, readingOf, reading}
 use Rattle.record_layout.specs.declared.kind.KindFound.{KindFound}
 use Rattle.record_layout.specs.declared.kind.KindFound.the-variants.{Known, Unknown}
@@ -16,7 +17,7 @@ use Rattle.record_layout.specs.declared.fields.Reading.{Reading}
 use Rattle.record_layout.specs.declared.fields.Reading
 
 abbrev OnlyBad : Reading → Type 0
-OnlyBad (Reading.Fields fields) = Unit {0}
+OnlyBad (Reading.Record fields list taken) = Unit {0}
 OnlyBad (Reading.Refused refusal) = refusal ≡ BadRecord
 
 AllBad : List Rule → Type 0
@@ -34,7 +35,7 @@ decide-bad (rule ∷ rules) r all bad = go (rule .holds) (decide-bad rules r (al
 
 found-bad : (z : Size) (found : KindFound) (b : List ℕ) → OnlyBad (readingOf z found b)
 unfolding AllBad
-found-bad z (Known k) b = decide-bad (bodyRules z k b) (Reading.Fields (fieldsOf k b)) (refl, (refl, tt)) tt
+found-bad z (Known k) b = decide-bad (bodyRules z k b) (Reading.Record (fieldsOf k b) (listPlace k) (4 + length b)) (refl, (refl, tt)) tt
 found-bad z Unknown b = refl
 
 pub only-bad-record : (z : Size) (s : List ℕ) (refusal : Refusal) → reading z s ≡ Reading.Refused refusal → refusal ≡ BadRecord

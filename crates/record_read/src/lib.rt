@@ -1,38 +1,47 @@
-// Reading a record: the fields or the refusal, and its list as a part of the caller's bytes.
+// Reading a record: by its fields or the refusal, and its list as a part of the caller's bytes.
 ghost use mathlib.Core.Path.{_≡_};
 ghost use Rattle.counters.specs.Sizes.{base};
 ghost use Rattle.record_layout.specs.Bytes.{IsPart};
-ghost use Rattle.record_layout.specs.Reading.{reading, listing, listPlace};
+ghost use Rattle.record_layout.specs.Reading.{reading, listIn, listing, listAt};
 use answers::Refusal;
-use record_bytes::behind;
-use record_frame::body;
 use record_frame::frame;
 use record_layout::fields::Framing;
 use record_layout::fields::Reading;
-use record_layout::fields::shape_of;
 use record_layout::kind::KindFound;
 use record_layout::kind::of_number;
 
-// The fields of the first record, or the refusal.
+// The first record, or the refusal. Each byte of frame and head is looked at once.
 pub fn read(s: &[u8]) -> Reading
     ensures { λ r. ⌜ r ≡ reading base (now (s .entry)) ⌝ }
 {
     match frame(s) {
         Framing::Refused(refusal) => Reading::Refused(refusal),
-        Framing::Whole(number) => match of_number(number) {
+        Framing::Whole { length, number } => match of_number(number) {
             KindFound::Unknown => Reading::Refused(Refusal::BadRecord),
-            KindFound::Known(kind) => record_body::read(kind, body(s)),
+            KindFound::Known(kind) => record_body::read(kind, &s[4..4 + length as usize]),
         },
     }
 }
 
 // The list that stands beside the fields, as that part of s; an empty part where the reading is refused.
 pub fn list(s: &[u8]) -> &[u8]
-    ensures { λ r. ⌜ IsPart r (s .entry) (listPlace base (now (s .entry))) (listing base (now (s .entry))) ⌝ }
+    ensures { λ r. ⌜ IsPart r (s .entry) (listAt (reading base (now (s .entry)))) (listing base (now (s .entry))) ⌝ }
 {
-    let Reading::Fields(fields) = read(s) else {
+    list_of(read(s), s)
+}
+
+// The same of bytes that were read already.
+pub fn list_of(read: Reading, s: &[u8]) -> &[u8]
+    requires { ⌜ read ≡ reading base (now s) ⌝ }
+    ensures { λ r. ⌜ IsPart r (s .entry) (listAt read) (listIn read (now (s .entry))) ⌝ }
+{
+    let Reading::Record {
+        fields: _,
+        list,
+        taken,
+    } = read
+    else {
         return &s[..0];
     };
-    let head = shape_of(fields).head;
-    behind(body(s), head as usize)
+    &s[list..taken]
 }

@@ -9,7 +9,6 @@ ghost use Rattle.record_layout.specs.Writing.{written, writing, placing};
 use answers::Answer;
 use answers::Refusal;
 use record_layout::fields::Fields;
-use record_layout::fields::shape_of;
 use record_layout::kind::BODY_LIMIT;
 
 // Fields that make no readable record are BadRecord, then a short buffer is NoRoom; else the record stands at the
@@ -27,7 +26,7 @@ pub fn write(fields: Fields, list: &[u8], buf: &mut [u8]) -> Answer
 fn place(fields: Fields, list: &[u8], buf: &mut [u8]) -> Answer
     ensures { λ r. ⌜ written r (now (buf .exit)) ≡ placing base fields (now (list .entry)) (now (buf .entry)) ⌝ }
 {
-    let body = shape_of(fields).head as usize + list.len();
+    let body = fields.shape().head as usize + list.len();
     if BODY_LIMIT < body {
         return Answer::Refused(Refusal::BadRecord);
     }
@@ -46,7 +45,7 @@ fn put(fields: Fields, list: &[u8], buf: &mut [u8])
     ensures { λ _. ⌜ now (buf .exit) ≡ recordOf fields (now (list .entry)) ++ drop (length (recordOf fields (now (list .entry)))) (now (buf .entry)) ⌝ }
 {
     let front = record_front::front(fields, list.len() as u16);
-    let length = 4 + shape_of(fields).head as usize;
+    let length = 4 + fields.shape().head as usize;
     bytes::copy(&front[..length], buf);
     bytes::copy(list, &mut buf[length..]);
 }

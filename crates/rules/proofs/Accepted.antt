@@ -10,25 +10,27 @@ use borrow.Author.Tests.{leb-false, lt-leb, ltb-false, le-ltb, not-false}
 use Rattle.answers.proofs.Deciding.{Passes}
 use Rattle.counters.specs.Sizes.{Size}
 use Rattle.counters.specs.Versions.{next, difference}
+use Rattle.record_layout.specs.Declarations.{declarationsOf}
 use Rattle.objects.specs.Places.{turnOf, saysReleased, saysWait}
 use Rattle.rules.specs.Tables.{State, objectAt, liveAt, pairAt}
-use Rattle.rules.specs.Refusing.{doomed, misses, unmet, badLength, startRules, callRules, releaseRules, endRules}
+use Rattle.rules.specs.Refusing.{doomed, misses, unmet, badLength, declarationRules, startRules, endRules}
 use Rattle.rules.specs.Effects.{endRecord}
 use Rattle.rules.specs.Steps.{startStep, callStep, releaseStep, endStep}
 use Rattle.rules.proofs.Walking.{any-none, none-any}
-use Rattle.rules.proofs.Facts.{Rises, pairs-rise, length-fits, turn-now, need-met}
-use Rattle.rules.proofs.Exactly.{rulesOfEnd, start-exactly, call-exactly, release-exactly, commit-exactly, rollback-exactly}
+use Rattle.rules.proofs.Facts.{Rises, declarations-rise, length-fits, turn-now, need-met}
+use Rattle.rules.proofs.RulesOf.{rulesOfCall, rulesOfRelease, rulesOfEnd}
+use Rattle.rules.proofs.Exactly.{start-exactly, call-exactly, release-exactly, commit-exactly, rollback-exactly}
 
 -- a start: the slot is free, and its list is not empty, even, not too long and rising
-pub record StartFits (z : Size) (t : State) (s : ℕ) (list : List ℕ) : Type 0 where
+pub record StartFits (z : Size) (s : ℕ) (live : Bool) (list : List ℕ) : Type 0 where
   pub slot : s < z .slots
-  pub free : liveAt t s ≡ false
+  pub free : live ≡ false
   pub some : length list ≢ 0
   pub even : length list % 2 ≡ 0
   pub short : length list ≤ 2 * z .objects
-  pub rises : Rises z 0 list
+  pub rises : Rises z 0 (declarationsOf list)
 
--- 'd = 1: it is the transaction's turn.'
+-- a release: the pair is there and declared, and it has its turn
 pub record ReleaseFits (z : Size) (t : State) (s o : ℕ) : Type 0 where
   pub slot : s < z .slots
   pub live : liveAt t s ≡ true
@@ -36,7 +38,7 @@ pub record ReleaseFits (z : Size) (t : State) (s o : ℕ) : Type 0 where
   pub declared : pairAt z t s o .declared ≡ true
   pub turn : difference (pairAt z t s o .private .0) (objectAt t o .local .0) ≡ 1
 
--- a transaction that is not doomed: 'spoiled on any object, declared or not'
+-- R10: a slot that is not doomed
 abbrev pub Unspoiled : Size → State → ℕ → Type 0
 Unspoiled z t s = (q : ℕ) → q < z .objects → pairAt z t s q .spoiled ≡ false
 
@@ -46,7 +48,7 @@ pub record CallFits (z : Size) (t : State) (s o kind : ℕ) : Type 0 where
   pub known : kind < 4
   pub unspoiled : Unspoiled z t s
 
--- 'Needs terminal + 1 = private on every declared object.'
+-- a rollback: the slot is live, every declared object meets the terminal need, and the record has room
 pub record EndFits (z : Size) (rollback : Bool) (t : State) (s tick : ℕ) (buffer : List ℕ) : Type 0 where
   pub slot : s < z .slots
   pub live : liveAt t s ≡ true
@@ -58,99 +60,115 @@ pub record CommitFits (z : Size) (t : State) (s tick : ℕ) (buffer : List ℕ) 
   pub end : EndFits z false t s tick buffer
   pub unspoiled : Unspoiled z t s
 
+pub start-fits : (z : Size) (s : ℕ) (live : Bool) (list : List ℕ) → Passes (startRules z s live list) ↔ StartFits z s live list
+start-fits z s live list = (tells, passes)
+  where
+    long : (badLength z list ≡ false) ↔ ((length list ≢ 0) × (length list % 2 ≡ 0) × (length list ≤ 2 * z .objects))
+    long = length-fits (z .objects) (length list)
+
+    rise : Passes (declarationRules z 0 (declarationsOf list)) ↔ Rises z 0 (declarationsOf list)
+    rise = declarations-rise z 0 (declarationsOf list)
+
+    tells : Passes (startRules z s live list) → StartFits z s live list
+    tells (slot, (free, (fits, rises))) =
+        let fitting = long .0 fits in
+        record {
+          slot = leb-false (z .slots) s slot;
+          free = free;
+          some = fitting .0;
+          even = fitting .1;
+          short = fitting .2;
+          rises = rise .0 rises;
+        }
+
+    passes : StartFits z s live list → Passes (startRules z s live list)
+    passes f = (lt-leb (z .slots) s (f .slot), (f .free, (long .1 (f .some, f .even, f .short), rise .1 (f .rises))))
+
 module _ (z : Size) (t : State) where
   none-spoiled : (s : ℕ) → (doomed z t s ≡ false) ↔ Unspoiled z t s
   none-spoiled s = (any-none (z .objects) (λ q. pairAt z t s q .spoiled), none-any (z .objects) (λ q. pairAt z t s q .spoiled))
 
-  start-fits : (s : ℕ) (list : List ℕ) → Passes (startRules z s (liveAt t s) list) ↔ StartFits z t s list
-  start-fits s list = (tells, λ f. (lt-leb (z .slots) s (f .slot), (f .free, (long .1 (f .some, f .even, f .short), pairs-rise z 0 list .1 (f .rises)))))
-    where
-      long : (badLength z list ≡ false) ↔ ((length list ≢ 0) × (length list % 2 ≡ 0) × (length list ≤ 2 * z .objects))
-      long = length-fits (z .objects) (length list)
-
-      tells : Passes (startRules z s (liveAt t s) list) → StartFits z t s list
-      tells p =
-          record {
-            slot = leb-false (z .slots) s (p .0);
-            free = p .1 .0;
-            some = long .0 (p .1 .1 .0) .0;
-            even = long .0 (p .1 .1 .0) .1;
-            short = long .0 (p .1 .1 .0) .2;
-            rises = pairs-rise z 0 list .0 (p .1 .1 .1);
-          }
-
-  release-fits : (s o : ℕ) → Passes (releaseRules z s o (liveAt t s) (pairAt z t s o) (objectAt t o)) ↔ ReleaseFits z t s o
+  release-fits : (s o : ℕ) → Passes (rulesOfRelease z t s o) ↔ ReleaseFits z t s o
   release-fits s o = (tells, passes)
     where
       now : ((saysReleased (turnOf (z .slots) (pairAt z t s o) (objectAt t o)) ≡ false) × (saysWait (turnOf (z .slots) (pairAt z t s o) (objectAt t o)) ≡ false))
           ↔ (difference (pairAt z t s o .private .0) (objectAt t o .local .0) ≡ 1)
       now = turn-now (z .slots) (difference (pairAt z t s o .private .0) (objectAt t o .local .0))
 
-      tells : Passes (releaseRules z s o (liveAt t s) (pairAt z t s o) (objectAt t o)) → ReleaseFits z t s o
-      tells p =
+      tells : Passes (rulesOfRelease z t s o) → ReleaseFits z t s o
+      tells (slot, (live, (object, (declared, (held, (early, rest)))))) =
           record {
-            slot = leb-false (z .slots) s (p .0);
-            live = not-false (liveAt t s) (p .1 .0);
-            object = leb-false (z .objects) o (p .1 .1 .0);
-            declared = not-false (pairAt z t s o .declared) (p .1 .1 .1 .0);
-            turn = now .0 (p .1 .1 .1 .1 .0, p .1 .1 .1 .1 .1 .0);
+            slot = leb-false (z .slots) s slot;
+            live = not-false (liveAt t s) live;
+            object = leb-false (z .objects) o object;
+            declared = not-false (pairAt z t s o .declared) declared;
+            turn = now .0 (held, early);
           }
 
-      passes : ReleaseFits z t s o → Passes (releaseRules z s o (liveAt t s) (pairAt z t s o) (objectAt t o))
+      passes : ReleaseFits z t s o → Passes (rulesOfRelease z t s o)
       passes f = (
         lt-leb (z .slots) s (f .slot),
         (ap not (f .live), (lt-leb (z .objects) o (f .object), (ap not (f .declared), (now .1 (f .turn) .0, (now .1 (f .turn) .1, tt))))),
       )
 
   -- a call has the rules of a release, and two more
-  call-fits : (s o kind : ℕ) → Passes (callRules z s o kind (liveAt t s) (doomed z t s) (pairAt z t s o) (objectAt t o)) ↔ CallFits z t s o kind
-  call-fits s o kind = (
-    λ p. record {
-      release = release-fits s o .0 (p .0, (p .1 .0, (p .1 .1 .0, (p .1 .1 .1 .0, p .1 .1 .1 .1 .1 .1))));
-      known = leb-false 4 kind (p .1 .1 .1 .1 .0);
-      unspoiled = none-spoiled s .0 (p .1 .1 .1 .1 .1 .0);
-    },
-    λ f.
-        let p : Passes (releaseRules z s o (liveAt t s) (pairAt z t s o) (objectAt t o)) = release-fits s o .1 (f .release) in
-        (p .0, (p .1 .0, (p .1 .1 .0, (p .1 .1 .1 .0, (lt-leb 4 kind (f .known), (none-spoiled s .1 (f .unspoiled), p .1 .1 .1 .1)))))),
-  )
+  call-fits : (s o kind : ℕ) → Passes (rulesOfCall z t s o kind) ↔ CallFits z t s o kind
+  call-fits s o kind = (tells, λ f. with-two f (release-fits s o .1 (f .release)))
+    where
+      tells : Passes (rulesOfCall z t s o kind) → CallFits z t s o kind
+      tells (slot, (live, (object, (declared, (known, (clean, turn)))))) =
+          record {
+            release = release-fits s o .0 (slot, (live, (object, (declared, turn))));
+            known = leb-false 4 kind known;
+            unspoiled = none-spoiled s .0 clean;
+          }
 
+      with-two : CallFits z t s o kind → Passes (rulesOfRelease z t s o) → Passes (rulesOfCall z t s o kind)
+      with-two f (slot, (live, (object, (declared, turn)))) =
+          (slot, (live, (object, (declared, (lt-leb 4 kind (f .known), (none-spoiled s .1 (f .unspoiled), turn))))))
+
+  -- the rules of a rollback, of the record of either end
   end-fits : (rollback : Bool) (s tick : ℕ) (buffer : List ℕ)
       → Passes (endRules z true s (liveAt t s) (doomed z t s) (unmet z t s) (ltb (length buffer) (length (endRecord z rollback s tick t))))
       ↔ EndFits z rollback t s tick buffer
-  end-fits rollback s tick buffer = (
-    λ p. record {
-      slot = leb-false (z .slots) s (p .0);
-      live = not-false (liveAt t s) (p .1 .0);
-      need = λ q below. need-met (pairAt z t s q) (objectAt t q) .0 (any-none (z .objects) missed (p .1 .1 .0) q below);
-      room = ltb-false (length buffer) (length (endRecord z rollback s tick t)) (p .1 .1 .1 .0);
-    },
-    λ f. (
-      lt-leb (z .slots) s (f .slot),
-      (
-        ap not (f .live),
-        (
-          none-any (z .objects) missed (λ q below. need-met (pairAt z t s q) (objectAt t q) .1 (f .need q below)),
-          (le-ltb (length buffer) (length (endRecord z rollback s tick t)) (f .room), tt),
-        ),
-      ),
-    ),
-  )
+  end-fits rollback s tick buffer = (tells, passes)
     where
       missed : ℕ → Bool
       missed o = misses (pairAt z t s o) (objectAt t o)
 
-  -- a commit has the rules of a rollback, and one more
+      bytes : ℕ
+      bytes = length (endRecord z rollback s tick t)
+
+      tells : Passes (endRules z true s (liveAt t s) (doomed z t s) (unmet z t s) (ltb (length buffer) bytes)) → EndFits z rollback t s tick buffer
+      tells (slot, (live, (met, (room, none)))) =
+          record {
+            slot = leb-false (z .slots) s slot;
+            live = not-false (liveAt t s) live;
+            need = λ q below. need-met (pairAt z t s q) (objectAt t q) .0 (any-none (z .objects) missed met q below);
+            room = ltb-false (length buffer) bytes room;
+          }
+
+      passes : EndFits z rollback t s tick buffer → Passes (endRules z true s (liveAt t s) (doomed z t s) (unmet z t s) (ltb (length buffer) bytes))
+      passes f =
+          let met = none-any (z .objects) missed (λ q below. need-met (pairAt z t s q) (objectAt t q) .1 (f .need q below)) in
+          (lt-leb (z .slots) s (f .slot), (ap not (f .live), (met, (le-ltb (length buffer) bytes (f .room), tt))))
+
+  -- a commit has one more
   commit-fits : (s tick : ℕ) (buffer : List ℕ) → Passes (rulesOfEnd z t false s tick buffer) ↔ CommitFits z t s tick buffer
-  commit-fits s tick buffer =
-      let fits = end-fits false s tick buffer in (
-        λ p. record { end = fits .0 (p .0, (p .1 .0, p .1 .1 .1)); unspoiled = none-spoiled s .0 (p .1 .1 .0) },
-        λ f. (fits .1 (f .end) .0, (fits .1 (f .end) .1 .0, (none-spoiled s .1 (f .unspoiled), fits .1 (f .end) .1 .1))),
-      )
+  commit-fits s tick buffer = (tells, λ f. with-one f (end-fits false s tick buffer .1 (f .end)))
+    where
+      tells : Passes (rulesOfEnd z t false s tick buffer) → CommitFits z t s tick buffer
+      tells (slot, (live, (clean, rest))) =
+          record { end = end-fits false s tick buffer .0 (slot, (live, rest)); unspoiled = none-spoiled s .0 clean }
+
+      with-one : CommitFits z t s tick buffer
+          → Passes (endRules z true s (liveAt t s) (doomed z t s) (unmet z t s) (ltb (length buffer) (length (endRecord z false s tick t))))
+          → Passes (rulesOfEnd z t false s tick buffer)
+      with-one f (slot, (live, rest)) = (slot, (live, (none-spoiled s .1 (f .unspoiled), rest)))
 
   -- each event is accepted exactly when it fits
-  pub start-accepted : (s : ℕ) (list : List ℕ) → (startStep z t s list .reply .number ≡ 0) ↔ StartFits z t s list
-  start-accepted s list = Iff·trans (start-exactly z t s list .accepts) (start-fits s list)
+  pub start-accepted : (s : ℕ) (list : List ℕ) → (startStep z t s list .reply .number ≡ 0) ↔ StartFits z s (liveAt t s) list
+  start-accepted s list = Iff·trans (start-exactly z t s list .accepts) (start-fits z s (liveAt t s) list)
 
   pub call-accepted : (s o kind argument : ℕ) → (callStep z t s o kind argument .reply .number ≡ 0) ↔ CallFits z t s o kind
   call-accepted s o kind argument = Iff·trans (call-exactly z t s o kind argument .accepts) (call-fits s o kind)
@@ -163,3 +181,9 @@ module _ (z : Size) (t : State) where
 
   pub rollback-accepted : (s tick : ℕ) (buffer : List ℕ) → (endStep z true t s tick buffer .reply .number ≡ 0) ↔ EndFits z true t s tick buffer
   rollback-accepted s tick buffer = Iff·trans (rollback-exactly z t s tick buffer .accepts) (end-fits true s tick buffer)
+
+  -- either end, where it is accepted
+  pub end-accepted : (rollback : Bool) (s tick : ℕ) (buffer : List ℕ) → endStep z rollback t s tick buffer .reply .number ≡ 0
+      → EndFits z rollback t s tick buffer
+  end-accepted true s tick buffer done = rollback-accepted s tick buffer .0 done
+  end-accepted false s tick buffer done = commit-accepted s tick buffer .0 done .end

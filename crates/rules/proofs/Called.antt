@@ -5,6 +5,7 @@ use mathlib.Core.Path.{_≡_, refl}
 use lib.Dec.{eqb}
 use Rattle.answers.specs.Order.{pick}
 use Rattle.counters.specs.Sizes.{Size}
+use Rattle.kinds.specs.Kinds.{acted}
 use Rattle.objects.specs.Places.{calledObject, calledPair, letGo}
 use Rattle.objects.specs.declared.Object.{Object}
 use Rattle.objects.specs.declared.Pair.{Pair}
@@ -15,7 +16,7 @@ use Rattle.rules.proofs.Stores.{Sized, pair-after, object-after, sized-
 -- the tables u after a call in t
 pub record Called (z : Size) (s o kind argument : ℕ) (t u : State) : Type 0 where
   pub sized : Sized z u
-  pub object : (q : ℕ) → objectAt u q ≡ pick (eqb q o) (calledObject kind argument (pairAt z t s o) (objectAt t o)) (objectAt t q)
+  pub object : (q : ℕ) → objectAt u q ≡ pick (eqb q o) (calledObject (acted kind (objectAt t o .word) argument .word) (pairAt z t s o) (objectAt t o)) (objectAt t q)
   pub pair : (r q : ℕ) → q < z .objects
       → pairAt z u r q ≡ pick (eqb r s && eqb q o) (calledPair (pairAt z t s o) (objectAt t o)) (pairAt z t r q)
   pub live : u .live ≡ t .live
@@ -29,9 +30,9 @@ pub record GaveWay (z : Size) (s o : ℕ) (t u : State) : Type 0 where
 
 module _ (z : Size) (t : State) (sized : Sized z t) (s o : ℕ) (inside : o < z .objects) where
   -- the effects of a call and of a release, place by place
-  pub call-effect : (kind argument : ℕ) → s < z .slots → Called z s o kind argument t (callEffect z s o kind argument t)
+  pub call-effect : (kind argument : ℕ) → s < z .slots → Called z s o kind argument t (callEffect z s o (acted kind (objectAt t o .word) argument .word) t)
   call-effect kind argument slot =
-      let object : Object = calledObject kind argument (pairAt z t s o) (objectAt t o) in
+      let object : Object = calledObject (acted kind (objectAt t o .word) argument .word) (pairAt z t s o) (objectAt t o) in
       let pair : Pair = calledPair (pairAt z t s o) (objectAt t o) in
       let acted-on : Sized z (withObject t o object) = sized-object z t sized o object in
       record {

@@ -13,7 +13,7 @@ use Rattle.rules.proofs.Picking.{and-false, and-true}
 use Rattle.rules.proofs.Stores.{Sized, pair-after, sized-pair}
 use Rattle.rules.proofs.Walking.{each-keeps, each-sees}
 
--- the tables with the first entries of a slot zero
+-- the tables with the first pairs of a slot zero
 abbrev pub clearedTo : Size → ℕ → ℕ → State → State
 clearedTo z s k t = eachBelow k (λ o u. withPair z u s o noPair) t
 
@@ -28,7 +28,7 @@ module _ (z : Size) (t : State) (s : ℕ) where
   pub clear-sized : Sized z t → Sized z (clearSlot z s t)
   clear-sized sized = each-keeps (Sized z) (λ o u. withPair z u s o noPair) t sized (z .objects) (λ o u below kept. sized-pair z u kept s o noPair)
 
-  -- all entries of the slot zero, all others as they were
+  -- all pairs of the slot zero, all others as they were
   pub clear-pairs : Sized z t → s < z .slots → (r q : ℕ) → q < z .objects
       → pairAt z (clearSlot z s t) r q ≡ pick (eqb r s) noPair (pairAt z t r q)
   clear-pairs sized slot r q object =

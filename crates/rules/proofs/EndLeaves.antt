@@ -4,9 +4,8 @@ use mathlib.Core.Bool.{Bool, true, false, not, _&&_, _||_}
 use mathlib.Core.List.{List}
 use mathlib.Core.Logic.{_≢_}
 use mathlib.Core.Path.{_≡_, refl, sym, ap, _∙_}
-use borrow.Author.Tests.{eq-eqb, ne-eqb, leb-false}
+use borrow.Author.Tests.{eq-eqb, ne-eqb}
 use Rattle.answers.specs.Order.{pick}
-use Rattle.answers.proofs.Deciding.{Passes}
 use Rattle.counters.specs.Sizes.{Size}
 use Rattle.objects.specs.Places.{noPair, ended, restores, restored, spoiledPair}
 use Rattle.objects.specs.declared.Object.{Object}
@@ -15,7 +14,8 @@ use Rattle.rules.specs.Tables.{State, objectAt, liveAt, pairAt}
 use Rattle.rules.specs.Steps.{endStep}
 use Rattle.rules.proofs.Picking.{or-true, or-false, pick-when, pick-seen}
 use Rattle.rules.proofs.Stores.{Sized}
-use Rattle.rules.proofs.Exactly.{rulesOfEnd, end-passes, end-comes}
+use Rattle.rules.proofs.Exactly.{end-comes}
+use Rattle.rules.proofs.Accepted.{end-accepted}
 use Rattle.rules.proofs.Ended.{Ended, endedAt, end-effect}
 
 -- both ends: the pairs of the slot are cleared and it is no longer live; on an object that it did not declare nothing changes;
@@ -130,22 +130,18 @@ module _ (z : Size) (s : ℕ) (slot : s < z .slots) (t u : State) where
       }
 
 module _ (z : Size) (t : State) (sized : Sized z t) (s tick : ℕ) (buffer : List ℕ) where
-  slot-of : (rollback : Bool) → Passes (rulesOfEnd z t rollback s tick buffer) → s < z .slots
-  slot-of false passes = leb-false (z .slots) s (passes .0)
-  slot-of true passes = leb-false (z .slots) s (passes .0)
-
   -- an accepted end has its effect, place by place
   pub end-places : (rollback : Bool) → endStep z rollback t s tick buffer .reply .number ≡ 0
       → Ended z rollback s t (endStep z rollback t s tick buffer .tables)
   end-places rollback done =
-      let passes : Passes (rulesOfEnd z t rollback s tick buffer) = end-passes z t rollback s tick buffer done in
-      rw (end-comes z t rollback s tick buffer passes) (end-effect z t sized rollback s (slot-of rollback passes))
+      rw (end-comes z t rollback s tick buffer done)
+      (end-effect z t sized rollback s (end-accepted z t rollback s tick buffer done .slot))
 
   -- what an accepted commit and an accepted rollback leave
   pub commit-leaves : endStep z false t s tick buffer .reply .number ≡ 0 → CommitLeaves z s t (endStep z false t s tick buffer .tables)
   commit-leaves done =
-      committed-leaves z s (slot-of false (end-passes z t false s tick buffer done)) t (endStep z false t s tick buffer .tables) (end-places false done)
+      committed-leaves z s (end-accepted z t false s tick buffer done .slot) t (endStep z false t s tick buffer .tables) (end-places false done)
 
   pub rollback-leaves : endStep z true t s tick buffer .reply .number ≡ 0 → RollbackLeaves z s t (endStep z true t s tick buffer .tables)
   rollback-leaves done =
-      rolled-back-leaves z s (slot-of true (end-passes z t true s tick buffer done)) t (endStep z true t s tick buffer .tables) (end-places true done)
+      rolled-back-leaves z s (end-accepted z t true s tick buffer done .slot) t (endStep z true t s tick buffer .tables) (end-places true done)

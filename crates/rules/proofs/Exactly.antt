@@ -5,19 +5,17 @@ use mathlib.Core.List.{List, [], _∷_, _++_, map}
 use mathlib.Core.Logic.{_⊎_, inl, inr, _≢_, _↔_}
 use mathlib.Core.Path.{_≡_, refl, ap, sym, _∙_}
 use native.Mathlib.Omega.{arith}
-use lib.ListN.{length, drop}
-use lib.Dec.{ltb}
-use Rattle.answers.specs.Numbers.{accepted, numberOf}
+use Rattle.answers.specs.Numbers.{numberOf}
 use Rattle.answers.specs.Order.{Rule, decide}
 use Rattle.answers.specs.declared.Refusal.{Refusal}
 use Rattle.answers.specs.declared.Refusal.the-variants.{BadSlot, BadObject, BadList, Busy, Idle, NotDeclared, BadCall, Released, Doomed, Wait, NoRoom, BadRecord}
 use Rattle.answers.proofs.Deciding.{Passes, passed}
 use Rattle.counters.specs.Sizes.{Size}
-use Rattle.kinds.specs.Kinds.{acted}
-use Rattle.rules.specs.Tables.{State, objectAt, liveAt, pairAt}
-use Rattle.rules.specs.Refusing.{doomed, unmet, pairRules, startRules, callRules, releaseRules, endRules}
-use Rattle.rules.specs.Effects.{startEffect, callEffect, releaseEffect, endEffect, endRecord}
-use Rattle.rules.specs.Steps.{Outcome, unchanged, beside, startStep, callStep, releaseStep, endStep}
+use Rattle.record_layout.specs.Declarations.{Declaration, declarationsOf}
+use Rattle.rules.specs.Tables.{State}
+use Rattle.rules.specs.Refusing.{declarationRules}
+use Rattle.rules.specs.Steps.{Stepping, unchanged, beside, startStep, callStep, releaseStep, endStep}
+use Rattle.rules.proofs.RulesOf.{rulesOfStart, started, rulesOfCall, called, rulesOfRelease, released, rulesOfEnd, ended}
 
 -- a rule with this number holds and all rules before it pass
 pub record FirstOf (rules : List Rule) (number : ℕ) : Type 0 where
@@ -115,79 +113,73 @@ decided-exactly number rules order refused accepted in-order tells zero =
     refuses n other (inl p) e = absurd (other (sym e ∙ all-pass p))
     refuses n other (inr f) e = rw (sym (given (f .0) (f .1)) ∙ e) at (f .1)
 
--- 'then its pairs from the first: object too large (2), not above the one before (3)'
-abbrev pub pairOrder : List ℕ → List ℕ
-pairOrder (object ∷ supremum ∷ rest) = 2 ∷ 3 ∷ pairOrder rest
-pairOrder (object ∷ []) = []
-pairOrder [] = []
+-- R22: both tests of each declaration in turn
+abbrev pub declarationOrder : List Declaration → List ℕ
+declarationOrder [] = []
+declarationOrder (declaration ∷ rest) = 2 ∷ 3 ∷ declarationOrder rest
 
-pairs-in-order : (z : Size) (least : ℕ) (list : List ℕ) → numbers (pairRules z least list) ≡ pairOrder list
-pairs-in-order z least (object ∷ supremum ∷ rest) = ap (λ (l : List ℕ). 2 ∷ 3 ∷ l) (pairs-in-order z (object + 1) rest)
-pairs-in-order z least (object ∷ []) = refl
-pairs-in-order z least [] = refl
+declarations-in-order : (z : Size) (least : ℕ) (declarations : List Declaration) → numbers (declarationRules z least declarations) ≡ declarationOrder declarations
+declarations-in-order z least [] = refl
+declarations-in-order z least (declaration ∷ rest) = ap (λ (l : List ℕ). 2 ∷ 3 ∷ l) (declarations-in-order z (declaration .object + 1) rest)
 
 module _ (z : Size) (t : State) where
-  step-exactly : (rules : List Rule) (order : List ℕ) (effect : State) (value : ℕ) → numbers rules ≡ order
-      → Exact rules order (decide rules (unchanged t) (record { tables = effect; reply = accepted value }) .reply .number)
-  step-exactly rules order effect value in-order =
-      decided-exactly (λ stepping. stepping .reply .number) rules order (unchanged t) (record { tables = effect; reply = accepted value })
-      in-order (λ refusal. refl) refl
+  step-exactly : (rules : List Rule) (order : List ℕ) (done : Stepping) → numbers rules ≡ order → done .reply .number ≡ 0
+      → Exact rules order (decide rules (unchanged t) done .reply .number)
+  step-exactly rules order done in-order zero =
+      decided-exactly (λ stepping. stepping .reply .number) rules order (unchanged t) done in-order (λ refusal. refl) zero
 
-  -- 'Start: 1, 4, then the list's length (3), then its pairs'
+  -- R21, of a start
   pub start-exactly : (s : ℕ) (list : List ℕ)
-      → Exact (startRules z s (liveAt t s) list) (1 ∷ 4 ∷ 3 ∷ pairOrder list) (startStep z t s list .reply .number)
+      → Exact (rulesOfStart z t s list) (1 ∷ 4 ∷ 3 ∷ declarationOrder (declarationsOf list)) (startStep z t s list .reply .number)
   start-exactly s list =
-      step-exactly (startRules z s (liveAt t s) list) (1 ∷ 4 ∷ 3 ∷ pairOrder list) (startEffect z s list t) 0
-      (ap (λ (l : List ℕ). 1 ∷ 4 ∷ 3 ∷ l) (pairs-in-order z 0 list))
+      step-exactly (rulesOfStart z t s list) (1 ∷ 4 ∷ 3 ∷ declarationOrder (declarationsOf list)) (started z t s list)
+      (ap (λ (l : List ℕ). 1 ∷ 4 ∷ 3 ∷ l) (declarations-in-order z 0 (declarationsOf list))) refl
 
-  -- 'Call: 1, 5, 2, 6, 7, 9, 8, 10.'
+  -- of a call
   pub call-exactly : (s o kind argument : ℕ)
-      → Exact (callRules z s o kind (liveAt t s) (doomed z t s) (pairAt z t s o) (objectAt t o)) (1 ∷ 5 ∷ 2 ∷ 6 ∷ 7 ∷ 9 ∷ 8 ∷ 10 ∷ [])
-      (callStep z t s o kind argument .reply .number)
+      → Exact (rulesOfCall z t s o kind) (1 ∷ 5 ∷ 2 ∷ 6 ∷ 7 ∷ 9 ∷ 8 ∷ 10 ∷ []) (callStep z t s o kind argument .reply .number)
   call-exactly s o kind argument =
-      step-exactly (callRules z s o kind (liveAt t s) (doomed z t s) (pairAt z t s o) (objectAt t o)) (1 ∷ 5 ∷ 2 ∷ 6 ∷ 7 ∷ 9 ∷ 8 ∷ 10 ∷ [])
-      (callEffect z s o kind argument t) (acted kind (objectAt t o .word) argument .answer) refl
+      step-exactly (rulesOfCall z t s o kind) (1 ∷ 5 ∷ 2 ∷ 6 ∷ 7 ∷ 9 ∷ 8 ∷ 10 ∷ []) (called z t s o kind argument) refl refl
 
-  -- 'Release: 1, 5, 2, 6, 8, 10.'
-  pub release-exactly : (s o : ℕ)
-      → Exact (releaseRules z s o (liveAt t s) (pairAt z t s o) (objectAt t o)) (1 ∷ 5 ∷ 2 ∷ 6 ∷ 8 ∷ 10 ∷ []) (releaseStep z t s o .reply .number)
-  release-exactly s o =
-      step-exactly (releaseRules z s o (liveAt t s) (pairAt z t s o) (objectAt t o)) (1 ∷ 5 ∷ 2 ∷ 6 ∷ 8 ∷ 10 ∷ []) (releaseEffect z s o t) 0 refl
+  -- of a release
+  pub release-exactly : (s o : ℕ) → Exact (rulesOfRelease z t s o) (1 ∷ 5 ∷ 2 ∷ 6 ∷ 8 ∷ 10 ∷ []) (releaseStep z t s o .reply .number)
+  release-exactly s o = step-exactly (rulesOfRelease z t s o) (1 ∷ 5 ∷ 2 ∷ 6 ∷ 8 ∷ 10 ∷ []) (released z t s o) refl refl
 
-  -- the rules of an end: its record is too long for the buffer where `ltb` says so
-  abbrev pub rulesOfEnd : Bool → ℕ → ℕ → List ℕ → List Rule
-  rulesOfEnd rollback s tick buffer =
-      endRules z rollback s (liveAt t s) (doomed z t s) (unmet z t s) (ltb (length buffer) (length (endRecord z rollback s tick t)))
-
-  -- what comes back of an end that no rule refuses
-  abbrev pub endOutcome : Bool → ℕ → ℕ → List ℕ → Outcome
-  endOutcome rollback s tick buffer =
-      let written : List ℕ = endRecord z rollback s tick t in
-      record { tables = endEffect z rollback s t; reply = accepted (length written); buffer = written ++ drop (length written) buffer }
-
-  end-exactly : (rollback : Bool) (s tick : ℕ) (buffer order : List ℕ) → numbers (rulesOfEnd rollback s tick buffer) ≡ order
-      → Exact (rulesOfEnd rollback s tick buffer) order (endStep z rollback t s tick buffer .reply .number)
+  end-exactly : (rollback : Bool) (s tick : ℕ) (buffer order : List ℕ) → numbers (rulesOfEnd z t rollback s tick buffer) ≡ order
+      → Exact (rulesOfEnd z t rollback s tick buffer) order (endStep z rollback t s tick buffer .reply .number)
   end-exactly rollback s tick buffer order in-order =
-      decided-exactly (λ outcome. outcome .reply .number) (rulesOfEnd rollback s tick buffer) order (λ refusal. beside buffer (unchanged t refusal))
-      (endOutcome rollback s tick buffer) in-order (λ refusal. refl) refl
+      decided-exactly (λ outcome. outcome .reply .number) (rulesOfEnd z t rollback s tick buffer) order (λ refusal. beside buffer (unchanged t refusal))
+      (ended z t rollback s tick buffer) in-order (λ refusal. refl) refl
 
-  -- 'Commit: 1, 5, 9, 10, 11.'
+  -- of a commit
   pub commit-exactly : (s tick : ℕ) (buffer : List ℕ)
-      → Exact (rulesOfEnd false s tick buffer) (1 ∷ 5 ∷ 9 ∷ 10 ∷ 11 ∷ []) (endStep z false t s tick buffer .reply .number)
+      → Exact (rulesOfEnd z t false s tick buffer) (1 ∷ 5 ∷ 9 ∷ 10 ∷ 11 ∷ []) (endStep z false t s tick buffer .reply .number)
   commit-exactly s tick buffer = end-exactly false s tick buffer (1 ∷ 5 ∷ 9 ∷ 10 ∷ 11 ∷ []) refl
 
-  -- 'Rollback: 1, 5, 10, 11.'
+  -- of a rollback
   pub rollback-exactly : (s tick : ℕ) (buffer : List ℕ)
-      → Exact (rulesOfEnd true s tick buffer) (1 ∷ 5 ∷ 10 ∷ 11 ∷ []) (endStep z true t s tick buffer .reply .number)
+      → Exact (rulesOfEnd z t true s tick buffer) (1 ∷ 5 ∷ 10 ∷ 11 ∷ []) (endStep z true t s tick buffer .reply .number)
   rollback-exactly s tick buffer = end-exactly true s tick buffer (1 ∷ 5 ∷ 10 ∷ 11 ∷ []) refl
 
-  -- of both ends: what is accepted passes its rules, and what passes them comes back whole
-  pub end-passes : (rollback : Bool) (s tick : ℕ) (buffer : List ℕ) → endStep z rollback t s tick buffer .reply .number ≡ 0
-      → Passes (rulesOfEnd rollback s tick buffer)
+  -- what is accepted comes back whole
+  pub start-comes : (s : ℕ) (list : List ℕ) → startStep z t s list .reply .number ≡ 0 → startStep z t s list ≡ started z t s list
+  start-comes s list done = passed (rulesOfStart z t s list) (unchanged t) (started z t s list) (start-exactly s list .accepts .0 done)
+
+  pub call-comes : (s o kind argument : ℕ) → callStep z t s o kind argument .reply .number ≡ 0
+      → callStep z t s o kind argument ≡ called z t s o kind argument
+  call-comes s o kind argument done =
+      passed (rulesOfCall z t s o kind) (unchanged t) (called z t s o kind argument) (call-exactly s o kind argument .accepts .0 done)
+
+  pub release-comes : (s o : ℕ) → releaseStep z t s o .reply .number ≡ 0 → releaseStep z t s o ≡ released z t s o
+  release-comes s o done = passed (rulesOfRelease z t s o) (unchanged t) (released z t s o) (release-exactly s o .accepts .0 done)
+
+  end-passes : (rollback : Bool) (s tick : ℕ) (buffer : List ℕ) → endStep z rollback t s tick buffer .reply .number ≡ 0
+      → Passes (rulesOfEnd z t rollback s tick buffer)
   end-passes false s tick buffer done = commit-exactly s tick buffer .accepts .0 done
   end-passes true s tick buffer done = rollback-exactly s tick buffer .accepts .0 done
 
-  pub end-comes : (rollback : Bool) (s tick : ℕ) (buffer : List ℕ) → Passes (rulesOfEnd rollback s tick buffer)
-      → endStep z rollback t s tick buffer ≡ endOutcome rollback s tick buffer
-  end-comes rollback s tick buffer passes =
-      passed (rulesOfEnd rollback s tick buffer) (λ refusal. beside buffer (unchanged t refusal)) (endOutcome rollback s tick buffer) passes
+  pub end-comes : (rollback : Bool) (s tick : ℕ) (buffer : List ℕ) → endStep z rollback t s tick buffer .reply .number ≡ 0
+      → endStep z rollback t s tick buffer ≡ ended z t rollback s tick buffer
+  end-comes rollback s tick buffer done =
+      passed (rulesOfEnd z t rollback s tick buffer) (λ refusal. beside buffer (unchanged t refusal)) (ended z t rollback s tick buffer)
+      (end-passes rollback s tick buffer done)

@@ -3,39 +3,29 @@ use Prim.Native.Nat.{ℕ, _<_}
 use mathlib.Core.Bool.{Bool, true, false, _&&_}
 use mathlib.Core.List.{List}
 use mathlib.Core.Logic.{_≢_}
-use mathlib.Core.Path.{_≡_, refl, ap, _∙_}
+use mathlib.Core.Path.{_≡_, refl, _∙_}
 use lib.Dec.{eqb}
-use borrow.Author.Tests.{eqb-true, eq-eqb, ne-eqb, leb-false}
-use Rattle.answers.specs.Numbers.{accepted}
-use Rattle.answers.specs.Order.{Rule, decide}
-use Rattle.answers.proofs.Deciding.{Passes, passed}
+use borrow.Author.Tests.{eqb-true, eq-eqb, ne-eqb}
 use Rattle.counters.specs.Sizes.{Size}
-use Rattle.kinds.specs.Kinds.{acted}
+use Rattle.record_layout.specs.Declarations.{Declaration, declarationsOf, names}
 use Rattle.objects.specs.Places.{noPair}
 use Rattle.objects.specs.declared.Object.{Object}
 use Rattle.rules.specs.Tables.{State, objectAt, liveAt, pairAt}
-use Rattle.rules.specs.Refusing.{doomed, startRules, callRules, releaseRules}
-use Rattle.rules.specs.Effects.{startEffect, callEffect, releaseEffect}
-use Rattle.rules.specs.Steps.{Stepping, unchanged, startStep, callStep, releaseStep}
-use Rattle.rules.specs.Events.{names}
-use Rattle.rules.proofs.Picking.{both-true, pick-when}
+use Rattle.rules.specs.Steps.{startStep, callStep, releaseStep}
+use Rattle.answers.proofs.Tests.{both-true}
+use Rattle.rules.proofs.Picking.{pick-when}
 use Rattle.rules.proofs.Stores.{Sized}
-use Rattle.rules.proofs.Exactly.{start-exactly, call-exactly, release-exactly}
+use Rattle.rules.proofs.Exactly.{start-comes, call-comes, release-comes}
+use Rattle.rules.proofs.Accepted.{StartFits, ReleaseFits, start-accepted, call-accepted, release-accepted}
 use Rattle.rules.proofs.Called.{Called, GaveWay, call-effect, release-effect}
 use Rattle.rules.proofs.Started.{Started, start-effect}
 
--- the tables of an accepted step are those of its effect
-effect-comes : (t : State) (rules : List Rule) (effect : State) (value : ℕ) → Passes rules
-    → decide rules (unchanged t) (record { tables = effect; reply = accepted value }) .tables ≡ effect
-effect-comes t rules effect value passes =
-    ap (λ (stepping : Stepping). stepping .tables) (passed rules (unchanged t) (record { tables = effect; reply = accepted value }) passes)
-
--- a start: no pair of another slot, no object that its list does not name, of those named only global, no live mark but its own;
--- and the slot is live with all its other entries zero
-pub record StartLeaves (z : Size) (s : ℕ) (list : List ℕ) (t u : State) : Type 0 where
+-- a start: no pair of another slot, no object that it does not declare, of those declared only global, no live mark but its own;
+-- and the slot is live with all its other pairs zero
+pub record StartLeaves (z : Size) (s : ℕ) (declarations : List Declaration) (t u : State) : Type 0 where
   pub pairs : (r q : ℕ) → q < z .objects → r ≢ s → pairAt z u r q ≡ pairAt z t r q
-  pub zero : (q : ℕ) → q < z .objects → names list q ≡ false → pairAt z u s q ≡ noPair
-  pub objects : (q : ℕ) → names list q ≡ false → objectAt u q ≡ objectAt t q
+  pub zero : (q : ℕ) → q < z .objects → names declarations q ≡ false → pairAt z u s q ≡ noPair
+  pub objects : (q : ℕ) → names declarations q ≡ false → objectAt u q ≡ objectAt t q
   pub word : (q : ℕ) → objectAt u q .word ≡ objectAt t q .word
   pub local : (q : ℕ) → objectAt u q .local ≡ objectAt t q .local
   pub terminal : (q : ℕ) → objectAt u q .terminal ≡ objectAt t q .terminal
@@ -59,15 +49,15 @@ pub record ReleaseLeaves (o : ℕ) (t u : State) : Type 0 where
   pub terminal : objectAt u o .terminal ≡ objectAt t o .terminal
   pub live : u .live ≡ t .live
 
-started-leaves : (z : Size) (s : ℕ) (list : List ℕ) (t u : State) → Started z s list t u → StartLeaves z s list t u
-started-leaves z s list t u started =
+started-leaves : (z : Size) (s : ℕ) (declarations : List Declaration) (t u : State) → Started z s declarations t u → StartLeaves z s declarations t u
+started-leaves z s declarations t u started =
     record {
       pairs = λ r q below other. started .pair r q below ∙ rw (ne-eqb r s other);
       zero = λ q below unnamed. started .pair s q below ∙ rw (eq-eqb s s refl, unnamed);
       objects = λ q unnamed. started .object q ∙ rw unnamed;
-      word = λ q. rw (started .object q) (pick-when (λ (x : Object). x .word ≡ objectAt t q .word) (names list q) (λ e. refl) (λ e. refl));
-      local = λ q. rw (started .object q) (pick-when (λ (x : Object). x .local ≡ objectAt t q .local) (names list q) (λ e. refl) (λ e. refl));
-      terminal = λ q. rw (started .object q) (pick-when (λ (x : Object). x .terminal ≡ objectAt t q .terminal) (names list q) (λ e. refl) (λ e. refl));
+      word = λ q. rw (started .object q) (pick-when (λ (x : Object). x .word ≡ objectAt t q .word) (names declarations q) (λ e. refl) (λ e. refl));
+      local = λ q. rw (started .object q) (pick-when (λ (x : Object). x .local ≡ objectAt t q .local) (names declarations q) (λ e. refl) (λ e. refl));
+      terminal = λ q. rw (started .object q) (pick-when (λ (x : Object). x .terminal ≡ objectAt t q .terminal) (names declarations q) (λ e. refl) (λ e. refl));
       own-live = started .live s ∙ rw (eq-eqb s s refl);
       live = λ r other. started .live r ∙ rw (ne-eqb r s other);
     }
@@ -105,24 +95,23 @@ gave-way-leaves z s o t u gave =
 
 module _ (z : Size) (t : State) (sized : Sized z t) where
   -- an accepted start has its effect, place by place
-  pub start-places : (s : ℕ) (list : List ℕ) → startStep z t s list .reply .number ≡ 0 → Started z s list t (startStep z t s list .tables)
+  pub start-places : (s : ℕ) (list : List ℕ) → startStep z t s list .reply .number ≡ 0
+      → Started z s (declarationsOf list) t (startStep z t s list .tables)
   start-places s list done =
-      let passes : Passes (startRules z s (liveAt t s) list) = start-exactly z t s list .accepts .0 done in
-      rw (effect-comes t (startRules z s (liveAt t s) list) (startEffect z s list t) 0 passes)
-      (start-effect z t s list sized (leb-false (z .slots) s (passes .0)) (passes .1 .1 .1))
+      let fits : StartFits z s (liveAt t s) list = start-accepted z t s list .0 done in
+      rw (start-comes z t s list done) (start-effect z t s list sized (fits .slot) (fits .rises))
 
   -- and leaves what it does not touch; so below
-  pub start-leaves : (s : ℕ) (list : List ℕ) → startStep z t s list .reply .number ≡ 0 → StartLeaves z s list t (startStep z t s list .tables)
-  start-leaves s list done = started-leaves z s list t (startStep z t s list .tables) (start-places s list done)
+  pub start-leaves : (s : ℕ) (list : List ℕ) → startStep z t s list .reply .number ≡ 0
+      → StartLeaves z s (declarationsOf list) t (startStep z t s list .tables)
+  start-leaves s list done = started-leaves z s (declarationsOf list) t (startStep z t s list .tables) (start-places s list done)
 
   -- an accepted call has its effect
   pub call-places : (s o kind argument : ℕ) → callStep z t s o kind argument .reply .number ≡ 0
       → Called z s o kind argument t (callStep z t s o kind argument .tables)
   call-places s o kind argument done =
-      let rules : List Rule = callRules z s o kind (liveAt t s) (doomed z t s) (pairAt z t s o) (objectAt t o) in
-      let passes : Passes rules = call-exactly z t s o kind argument .accepts .0 done in
-      rw (effect-comes t rules (callEffect z s o kind argument t) (acted kind (objectAt t o .word) argument .answer) passes)
-      (call-effect z t sized s o (leb-false (z .objects) o (passes .1 .1 .0)) kind argument (leb-false (z .slots) s (passes .0)))
+      let fits : ReleaseFits z t s o = call-accepted z t s o kind argument .0 done .release in
+      rw (call-comes z t s o kind argument done) (call-effect z t sized s o (fits .object) kind argument (fits .slot))
 
   pub call-leaves : (s o kind argument : ℕ) → callStep z t s o kind argument .reply .number ≡ 0
       → CallLeaves z s o t (callStep z t s o kind argument .tables)
@@ -130,10 +119,7 @@ module _ (z : Size) (t : State) (sized : Sized z t) where
 
   -- an accepted release has its effect
   pub release-places : (s o : ℕ) → releaseStep z t s o .reply .number ≡ 0 → GaveWay z s o t (releaseStep z t s o .tables)
-  release-places s o done =
-      let rules : List Rule = releaseRules z s o (liveAt t s) (pairAt z t s o) (objectAt t o) in
-      let passes : Passes rules = release-exactly z t s o .accepts .0 done in
-      rw (effect-comes t rules (releaseEffect z s o t) 0 passes) (release-effect z t sized s o (leb-false (z .objects) o (passes .1 .1 .0)))
+  release-places s o done = rw (release-comes z t s o done) (release-effect z t sized s o (release-accepted z t s o .0 done .object))
 
   pub release-leaves : (s o : ℕ) → releaseStep z t s o .reply .number ≡ 0 → ReleaseLeaves o t (releaseStep z t s o .tables)
   release-leaves s o done = gave-way-leaves z s o t (releaseStep z t s o .tables) (release-places s o done)

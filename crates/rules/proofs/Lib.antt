@@ -2,6 +2,7 @@ pub mod SessionW
 pub mod Picking
 pub mod Stores
 pub mod Walking
+pub mod RulesOf
 pub mod Refused
 pub mod Exactly
 pub mod Facts

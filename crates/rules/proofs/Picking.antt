@@ -30,11 +30,6 @@ or-false false = refl
 pub clash : true ≡ false → ⊥
 clash e = let one : _≡_ {A = ℕ} 0 1 = ap (λ (b : Bool). pick b 0 1) e in omega arith
 
--- both parts of a test that holds
-pub both-true : (a b : Bool) → a && b ≡ true → (a ≡ true) × (b ≡ true)
-both-true true b e = (refl, e)
-both-true false b e = (e, cc)
-
 -- what holds of either, under its test, holds of what is picked
 pub pick-when : {A : Type 0} (P : A → Type 0) (test : Bool) {a b : A} → (test ≡ true → P a) → (test ≡ false → P b) → P (pick test a b)
 pick-when P true yes-holds no-holds = yes-holds refl

@@ -10,7 +10,8 @@ use Rattle.objects.specs.Places.{restores, restored, spoiledPair}
 use Rattle.objects.specs.declared.Pair.{Pair}
 use Rattle.rules.specs.Tables.{State, objectAt, liveAt, pairAt, withObject, withPair}
 use Rattle.rules.specs.Effects.{spoilOne, spoilOthers, restoreOne}
-use Rattle.rules.proofs.Picking.{both-true, pick-when, pick-seen, pick-same, pick-both, pick-moved}
+use Rattle.answers.proofs.Tests.{both-true}
+use Rattle.rules.proofs.Picking.{pick-when, pick-seen, pick-same, pick-both, pick-moved}
 use Rattle.rules.proofs.Stores.{Sized, pair-after, object-after, sized-pair, sized-object}
 use Rattle.rules.proofs.Walking.{each-keeps, each-sees}
 
@@ -20,7 +21,7 @@ pub record Underway (z : Size) (s : ℕ) (t u : State) : Type 0 where
   pub live : u .live ≡ t .live
   pub own : (q : ℕ) → q < z .objects → pairAt z u s q ≡ pairAt z t s q
 
--- 'every other live slot that has called this object'
+-- another live slot that has called the object
 abbrev pub hasCalled : Size → State → ℕ → ℕ → ℕ → Bool
 hasCalled z t s r o = liveAt t r && (not (eqb r s) && pairAt z t r o .called)
 
@@ -62,7 +63,7 @@ module _ (z : Size) (t : State) (sized : Sized z t) (s o : ℕ) (inside : o < z 
       each-keeps (λ u. u .objects ≡ t .objects) (λ r u. spoilOne z s o r u) t refl (z .slots)
       (λ r u below same. pick-when (λ (v : State). v .objects ≡ t .objects) (hasCalled z u s r o) (λ e. same) (λ e. same))
 
-  -- '.. and every other live slot that has called this object becomes spoiled on it': no other pair changes
+  -- these are spoiled on the object, and no other pair changes
   pub spoil-pairs : (r q : ℕ) → r < z .slots → q < z .objects
       → pairAt z (spoilOthers z s o t) r q ≡ pick (eqb q o && hasCalled z t s r q) (spoiledPair (pairAt z t r q)) (pairAt z t r q)
   spoil-pairs r q slot below =
@@ -101,7 +102,7 @@ module _ (z : Size) (t : State) (sized : Sized z t) (s o : ℕ) (inside : o < z 
       (λ e. record { sized = walked .sized; live = walked .live; own = walked .own })
       (λ e. record { sized = sized; live = refl; own = λ q below. refl })
 
-  -- 'the word becomes the saved word'
+  -- the word becomes the saved word
   pub restore-object : (q : ℕ)
       → objectAt (restoreOne z s o t) q
       ≡ pick (restores (pairAt z t s o) && eqb q o) (restored (pairAt z t s o) (objectAt t q)) (objectAt t q)

@@ -1,4 +1,4 @@
--- 'The twelve events of W are proved as one table under a single statement': numbers, values, bytes written and word 3.
+-- R44, R45: the twelve events of W give its table of numbers, values, bytes written and word 3.
 use mathlib.Core.Path.{_≡_, refl}
 use Rattle.rules.specs.Walks.{anyBelow, eachBelow, joinBelow}
 use Rattle.rules.specs.SessionW.{play, fresh, events, table}

@@ -8,12 +8,14 @@ use lib.Dec.{eqb}
 use borrow.Author.Tests.{eqb-true, eqb-false}
 use Rattle.counters.specs.Sizes.{Size}
 use Rattle.record_layout.specs.Reading.{reading, listing}
+use Rattle.record_layout.specs.declared.fields.Event.{Event}
+use Rattle.record_layout.specs.declared.fields.Event
 use Rattle.record_layout.specs.declared.fields.Fields.{Fields}
 use Rattle.record_layout.specs.declared.fields.Fields
 use Rattle.record_layout.specs.declared.fields.Reading.{Reading}
 use Rattle.record_layout.specs.declared.fields.Reading
 use Rattle.rules.specs.Tables.{State}
-use Rattle.rules.specs.Steps.{startStep, callStep, releaseStep, endStep, eventStep, readStep, recordStep}
+use Rattle.rules.specs.Steps.{startStep, callStep, releaseStep, endStep, eventStep, fieldsStep, readStep, recordStep}
 use Rattle.rules.proofs.Stores.{Sized}
 use Rattle.rules.proofs.Refused.{start-refused, call-refused, release-refused, end-refused}
 use Rattle.rules.proofs.Leaves.{start-places, call-places, release-places}
@@ -27,31 +29,29 @@ module _ (z : Size) (t : State) (sized : Sized z t) where
       by true e = done (eqb-true number 0 e)
       by false e = rw (other (eqb-false number 0 e)) sized
 
-  end-sized : (rollback : Bool) (s tick : ℕ) (buffer : List ℕ) → Sized z (endStep z rollback t s tick buffer .tables)
-  end-sized rollback s tick buffer =
-      either-way (endStep z rollback t s tick buffer .reply .number) (endStep z rollback t s tick buffer .tables)
-      (λ done. end-places z t sized s tick buffer rollback done .sized) (λ other. end-refused z t rollback s tick buffer other .tables)
-
-  -- any event, by its fields and as the bytes of a record
-  pub event-sized : (fields : Fields) (list buffer : List ℕ) → Sized z (eventStep z t fields list buffer .tables)
-  event-sized (Fields.Fresh first) list buffer = sized
-  event-sized (Fields.Start slot) list buffer =
+  -- any event, by itself, as the fields of a record and as its bytes
+  pub event-sized : (event : Event) (list buffer : List ℕ) → Sized z (eventStep z t event list buffer .tables)
+  event-sized (Event.Start slot) list buffer =
       either-way (startStep z t (slot .0) list .reply .number) (startStep z t (slot .0) list .tables)
       (λ done. start-places z t sized (slot .0) list done .sized) (λ other. start-refused z t (slot .0) list other .tables)
-  event-sized (Fields.Call slot object kind argument) list buffer =
+  event-sized (Event.Call slot object kind argument) list buffer =
       either-way (callStep z t (slot .0) (object .0) kind argument .reply .number) (callStep z t (slot .0) (object .0) kind argument .tables)
       (λ done. call-places z t sized (slot .0) (object .0) kind argument done .sized)
       (λ other. call-refused z t (slot .0) (object .0) kind argument other .tables)
-  event-sized (Fields.Release slot object) list buffer =
+  event-sized (Event.Release slot object) list buffer =
       either-way (releaseStep z t (slot .0) (object .0) .reply .number) (releaseStep z t (slot .0) (object .0) .tables)
       (λ done. release-places z t sized (slot .0) (object .0) done .sized) (λ other. release-refused z t (slot .0) (object .0) other .tables)
-  event-sized (Fields.Commit slot tick) list buffer = end-sized false (slot .0) tick buffer
-  event-sized (Fields.Rollback slot tick) list buffer = end-sized true (slot .0) tick buffer
-  event-sized (Fields.Committed tick slot) list buffer = sized
-  event-sized (Fields.RolledBack tick slot) list buffer = sized
+  event-sized (Event.End slot tick rollback) list buffer =
+      either-way (endStep z rollback t (slot .0) tick buffer .reply .number) (endStep z rollback t (slot .0) tick buffer .tables)
+      (λ done. end-places z t sized (slot .0) tick buffer rollback done .sized) (λ other. end-refused z t rollback (slot .0) tick buffer other .tables)
+
+  pub fields-sized : (fields : Fields) (list buffer : List ℕ) → Sized z (fieldsStep z t fields list buffer .tables)
+  fields-sized (Fields.Fresh first) list buffer = sized
+  fields-sized (Fields.Event event) list buffer = event-sized event list buffer
+  fields-sized (Fields.Ended tick slot rollback) list buffer = sized
 
   read-sized : (read : Reading) (list buffer : List ℕ) → Sized z (readStep z t read list buffer .tables)
-  read-sized (Reading.Fields fields) list buffer = event-sized fields list buffer
+  read-sized (Reading.Record fields place taken) list buffer = fields-sized fields list buffer
   read-sized (Reading.Refused refusal) list buffer = sized
 
   pub record-sized : (bytes buffer : List ℕ) → Sized z (recordStep z t bytes buffer .tables)

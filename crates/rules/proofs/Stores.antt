@@ -117,15 +117,19 @@ object-leaves t o x = (refl, refl)
 pub live-leaves : (t : State) (s : ℕ) (x : Bool) → (withLive t s x .objects ≡ t .objects) × (withLive t s x .pairs ≡ t .pairs)
 live-leaves t s x = (refl, refl)
 
+-- tables that agree in every column are one
+pub tables-alike : (t u : State) → t .objects ≡ u .objects → t .live ≡ u .live → t .pairs ≡ u .pairs → t ≡ u
+tables-alike t u objects live pairs = λ i. record { objects = objects i; live = live i; pairs = pairs i }
+
 -- storing what stands there changes nothing
 pub pair-kept : (z : Size) (t : State) (s o : ℕ) → withPair z t s o (pairAt z t s o) ≡ t
-pair-kept z t s o = λ i. record { objects = t .objects; live = t .live; pairs = set-getD (t .pairs) (s * z .objects + o) noPair i }
+pair-kept z t s o = tables-alike (withPair z t s o (pairAt z t s o)) t refl refl (set-getD (t .pairs) (s * z .objects + o) noPair)
 
 pub object-kept : (t : State) (o : ℕ) → withObject t o (objectAt t o) ≡ t
-object-kept t o = λ i. record { objects = set-getD (t .objects) o noObject i; live = t .live; pairs = t .pairs }
+object-kept t o = tables-alike (withObject t o (objectAt t o)) t (set-getD (t .objects) o noObject) refl refl
 
 pub live-kept : (t : State) (s : ℕ) → withLive t s (liveAt t s) ≡ t
-live-kept t s = λ i. record { objects = t .objects; live = set-getD (t .live) s false i; pairs = t .pairs }
+live-kept t s = tables-alike (withLive t s (liveAt t s)) t refl (set-getD (t .live) s false) refl
 
 -- the fresh tables have their sizes
 pub sized-fresh : (z : Size) (words : List ℕ) (first : ℕ) → length words ≡ z .objects → Sized z (freshTables z words first)

@@ -1,4 +1,4 @@
--- The laws of 'any' and 'each': one turn more, what is met below the bound, what every turn keeps, and what one place shows afterwards.
+-- The laws of the walks: one turn more, what is met below the bound, what every turn keeps, and what one place shows afterwards.
 use Prim.Native.Nat.{ℕ, zero, suc, _+_, _<_}
 use mathlib.Core.Bool.{Bool, true, false, _||_}
 use mathlib.Core.List.{List, [], _++_}
@@ -53,7 +53,7 @@ pub record Met (k : ℕ) (test : ℕ → Bool) : Type 0 where
   pub below : number < k
   pub meets : test number ≡ true
 
--- 'any' is true exactly where some number below the bound meets the test
+-- the test of any is true exactly where some number below the bound meets the test
 pub any-met : (k : ℕ) (test : ℕ → Bool) → anyBelow k test ≡ true → Met k test
 unfolding anyBelow
 any-met zero test h = let clash : _≡_ {A = ℕ} 0 1 = cc in absurd (omega arith)

@@ -1,23 +1,29 @@
--- Session W: its twelve events, what is seen of each as it is played by the rules, and the table that it gives.
+-- R44: session W, its twelve events, what is seen of each as it is played by the rules, and the table that it gives.
 use Prim.Native.Nat.{ℕ}
+use mathlib.Core.Bool.{true, false}
 use mathlib.Core.List.{List, [], _∷_, _++_}
 use lib.ListN.{drop, length, replicate, set}
 use Rattle.counters.specs.Sizes.{base}
+use Rattle.record_layout.specs.declared.fields.Event.{Event}
+use Rattle.record_layout.specs.declared.fields.Event
 use Rattle.record_layout.specs.declared.fields.Fields.{Fields}
 use Rattle.record_layout.specs.declared.fields.Fields
 use Rattle.rules.specs.Tables.{State, objectAt, freshTables}
 use Rattle.rules.specs.Steps.{Outcome}
-use Rattle.rules.specs.Events.{Event, outcomeOf}
+use Rattle.rules.specs.Events.{Handed, outcomeOf}
 
--- 'Its buffer for ends has 130 bytes.'
+-- R44: the buffer that every event is lent
 abbrev lent : List ℕ
 lent = replicate 130 0
 
-abbrev pub start : ℕ → List ℕ → Event
-start slot list = record { fields = Fields.Start (record { 0 = slot }); list = list; buffer = lent }
+abbrev handed : Event → List ℕ → Handed
+handed event list = record { fields = Fields.Event event; list = list; buffer = lent }
 
-abbrev pub call : ℕ → ℕ → ℕ → ℕ → Event
-call slot object kind argument = record { fields = Fields.Call (record { 0 = slot }) (record { 0 = object }) kind argument; list = []; buffer = lent }
+abbrev pub start : ℕ → List ℕ → Handed
+start slot list = handed (Event.Start (record { 0 = slot })) list
+
+abbrev pub call : ℕ → ℕ → ℕ → ℕ → Handed
+call slot object kind argument = handed (Event.Call (record { 0 = slot }) (record { 0 = object }) kind argument) []
 
 abbrev pub read : ℕ
 read = 0
@@ -28,14 +34,14 @@ add = 2
 abbrev pub spend : ℕ
 spend = 3
 
-abbrev pub release : ℕ → ℕ → Event
-release slot object = record { fields = Fields.Release (record { 0 = slot }) (record { 0 = object }); list = []; buffer = lent }
+abbrev pub release : ℕ → ℕ → Handed
+release slot object = handed (Event.Release (record { 0 = slot }) (record { 0 = object })) []
 
-abbrev pub commit : ℕ → ℕ → Event
-commit slot tick = record { fields = Fields.Commit (record { 0 = slot }) tick; list = []; buffer = lent }
+abbrev pub commit : ℕ → ℕ → Handed
+commit slot tick = handed (Event.End (record { 0 = slot }) tick false) []
 
-abbrev pub rollback : ℕ → ℕ → Event
-rollback slot tick = record { fields = Fields.Rollback (record { 0 = slot }) tick; list = []; buffer = lent }
+abbrev pub rollback : ℕ → ℕ → Handed
+rollback slot tick = handed (Event.End (record { 0 = slot }) tick true) []
 
 -- what is seen of an event: number and value, all of the buffer lent to it, and word 3 afterwards
 pub record Line : Type 0 where
@@ -63,11 +69,11 @@ withLine p outcome =
           ∷ [];
     }
 
-abbrev pub play : Played → List Event → Played
+abbrev pub play : Played → List Handed → Played
 play p [] = p
 play p (event ∷ events) = play (withLine p (outcomeOf base (p .tables) event)) events
 
--- 'first version 4294967295, word 3 is 100, the others 0'
+-- R44: the first version, and the words
 abbrev pub first : ℕ
 first = 4294967295
 
@@ -77,7 +83,7 @@ words = set (replicate (base .objects) 0) 3 100
 abbrev pub fresh : Played
 fresh = record { tables = freshTables base words first; lines = [] }
 
-abbrev pub events : List Event
+abbrev pub events : List Handed
 events =
     start 0 (3 ∷ 2 ∷ [])
     ∷ start 1 (3 ∷ 1 ∷ 5 ∷ 0 ∷ [])

@@ -1,6 +1,6 @@
--- The five steps: the first rule that holds refuses, with the tables and the buffer as they came; else the event has its effect.
+-- R11: the five steps. The first rule that holds refuses, with the tables and the buffer as they came; else the event has its effect.
 use Prim.Native.Nat.{ℕ}
-use mathlib.Core.Bool.{Bool, true, false}
+use mathlib.Core.Bool.{Bool}
 use mathlib.Core.List.{List, _++_}
 use lib.ListN.{length, drop}
 use lib.Dec.{ltb}
@@ -10,11 +10,14 @@ use Rattle.answers.specs.declared.Refusal.{Refusal}
 use Rattle.answers.specs.declared.Refusal.the-variants.{BadRecord}
 use Rattle.counters.specs.Sizes.{Size}
 use Rattle.record_layout.specs.Reading.{reading, listing}
+use Rattle.record_layout.specs.declared.fields.Event.{Event}
+use Rattle.record_layout.specs.declared.fields.Event
 use Rattle.record_layout.specs.declared.fields.Fields.{Fields}
 use Rattle.record_layout.specs.declared.fields.Fields
 use Rattle.record_layout.specs.declared.fields.Reading.{Reading}
 use Rattle.record_layout.specs.declared.fields.Reading
 use Rattle.kinds.specs.Kinds.{acted}
+use Rattle.kinds.specs.declared.Acted.{Acted}
 use Rattle.rules.specs.Tables.{State, objectAt, liveAt, pairAt}
 use Rattle.rules.specs.Refusing.{doomed, unmet, startRules, callRules, releaseRules, endRules}
 use Rattle.rules.specs.Effects.{startEffect, callEffect, releaseEffect, endEffect, endRecord}
@@ -30,11 +33,11 @@ pub record Outcome : Type 0 where
   pub reply : Reply
   pub buffer : List ℕ
 
--- 'Every refusal has value 0, returns the tables as they came ..'
+-- a refusal has value 0, and the tables stay
 abbrev pub unchanged : State → Refusal → Stepping
 unchanged t refusal = record { tables = t; reply = refused refusal }
 
--- '.. and touches no byte of any buffer.'
+-- an event that writes nothing leaves the buffer
 abbrev pub beside : List ℕ → Stepping → Outcome
 beside buffer stepping = record { tables = stepping .tables; reply = stepping .reply; buffer = buffer }
 
@@ -44,15 +47,16 @@ startStep z t s list =
 
 abbrev pub callStep : Size → State → ℕ → ℕ → ℕ → ℕ → Stepping
 callStep z t s o kind argument =
+    let act : Acted = acted kind (objectAt t o .word) argument in
     decide (callRules z s o kind (liveAt t s) (doomed z t s) (pairAt z t s o) (objectAt t o)) (unchanged t)
-    (record { tables = callEffect z s o kind argument t; reply = accepted (acted kind (objectAt t o .word) argument .answer) })
+    (record { tables = callEffect z s o (act .word) t; reply = accepted (act .answer) })
 
 abbrev pub releaseStep : Size → State → ℕ → ℕ → Stepping
 releaseStep z t s o =
     decide (releaseRules z s o (liveAt t s) (pairAt z t s o) (objectAt t o)) (unchanged t)
     (record { tables = releaseEffect z s o t; reply = accepted 0 })
 
--- 'A successful end writes its record at the buffer's first byte, its value is the bytes written, and the rest of the buffer stays.'
+-- R16, R27: the record stands at the buffer's first byte, the value is its length, and the rest of the buffer stays
 abbrev pub endStep : Size → Bool → State → ℕ → ℕ → List ℕ → Outcome
 endStep z rollback t s tick buffer =
     let written : List ℕ = endRecord z rollback s tick t in
@@ -60,21 +64,23 @@ endStep z rollback t s tick buffer =
     (λ refusal. beside buffer (unchanged t refusal))
     (record { tables = endEffect z rollback s t; reply = accepted (length written); buffer = written ++ drop (length written) buffer })
 
--- an event, by the fields of its record and the list beside them; a fresh or an end record is no event
-abbrev pub eventStep : Size → State → Fields → List ℕ → List ℕ → Outcome
-eventStep z t (Fields.Fresh first) list buffer = beside buffer (unchanged t BadRecord)
-eventStep z t (Fields.Start slot) list buffer = beside buffer (startStep z t (slot .0) list)
-eventStep z t (Fields.Call slot object kind argument) list buffer = beside buffer (callStep z t (slot .0) (object .0) kind argument)
-eventStep z t (Fields.Release slot object) list buffer = beside buffer (releaseStep z t (slot .0) (object .0))
-eventStep z t (Fields.Commit slot tick) list buffer = endStep z false t (slot .0) tick buffer
-eventStep z t (Fields.Rollback slot tick) list buffer = endStep z true t (slot .0) tick buffer
-eventStep z t (Fields.Committed tick slot) list buffer = beside buffer (unchanged t BadRecord)
-eventStep z t (Fields.RolledBack tick slot) list buffer = beside buffer (unchanged t BadRecord)
+-- an event, with the list beside it
+abbrev pub eventStep : Size → State → Event → List ℕ → List ℕ → Outcome
+eventStep z t (Event.Start slot) list buffer = beside buffer (startStep z t (slot .0) list)
+eventStep z t (Event.Call slot object kind argument) list buffer = beside buffer (callStep z t (slot .0) (object .0) kind argument)
+eventStep z t (Event.Release slot object) list buffer = beside buffer (releaseStep z t (slot .0) (object .0))
+eventStep z t (Event.End slot tick rollback) list buffer = endStep z rollback t (slot .0) tick buffer
+
+-- R18: the fields of a record; a fresh record and that of an end carry no event
+abbrev pub fieldsStep : Size → State → Fields → List ℕ → List ℕ → Outcome
+fieldsStep z t (Fields.Fresh first) list buffer = beside buffer (unchanged t BadRecord)
+fieldsStep z t (Fields.Event event) list buffer = eventStep z t event list buffer
+fieldsStep z t (Fields.Ended tick slot rollback) list buffer = beside buffer (unchanged t BadRecord)
 
 abbrev pub readStep : Size → State → Reading → List ℕ → List ℕ → Outcome
-readStep z t (Reading.Fields fields) list buffer = eventStep z t fields list buffer
+readStep z t (Reading.Record fields place taken) list buffer = fieldsStep z t fields list buffer
 readStep z t (Reading.Refused refusal) list buffer = beside buffer (unchanged t refusal)
 
--- an event as the bytes of a record
+-- R31: an event as the bytes of a record
 abbrev pub recordStep : Size → State → List ℕ → List ℕ → Outcome
 recordStep z t bytes buffer = readStep z t (reading z bytes) (listing z bytes) buffer

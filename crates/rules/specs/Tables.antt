@@ -1,4 +1,4 @@
--- 'Tables': per object a word and three versions, per slot live or not, per slot and object a pair; and the fresh tables.
+-- R4: of each object a word and three versions, of each slot its live mark, of each slot and object a pair. R7: the fresh tables.
 use Prim.Native.Nat.{ℕ, _+_, _*_}
 use mathlib.Core.Bool.{Bool, false}
 use mathlib.Core.List.{List, map}
@@ -14,7 +14,7 @@ pub record State : Type 0 where
   pub live : List Bool
   pub pairs : List Pair
 
--- past the end everything is zero
+-- R6: past the end everything is zero
 abbrev pub noObject : Object
 noObject = record { word = 0; global = record { 0 = 0 }; local = record { 0 = 0 }; terminal = record { 0 = 0 } }
 
@@ -37,7 +37,7 @@ withLive t s live = record { objects = t .objects; live = set (t .live) s live; 
 abbrev pub withPair : Size → State → ℕ → ℕ → Pair → State
 withPair z t s o pair = record { objects = t .objects; live = t .live; pairs = set (t .pairs) (s * z .objects + o) pair }
 
--- 'Fresh: given 24 words and a first version, all three versions of every object are that version and no slot is live.'
+-- R7: every version is the first, no slot is live, and every pair is zero
 abbrev pub freshObject : ℕ → ℕ → Object
 freshObject first word = record { word = word; global = record { 0 = first }; local = record { 0 = first }; terminal = record { 0 = first } }
 

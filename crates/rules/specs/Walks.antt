@@ -1,4 +1,4 @@
--- 'any' and 'each' of the paper: over every number below a bound, in rising order.
+-- Walks over every number below a bound, in rising order.
 use Prim.Native.Nat.{ℕ, zero, suc}
 use mathlib.Core.Bool.{Bool, false, _||_}
 use mathlib.Core.List.{List, [], _++_}

@@ -7,11 +7,12 @@ use native.Mathlib.Omega.{arith}
 use lib.ListN.{getD}
 use Rattle.counters.specs.Sizes.{Size}
 use Rattle.counters.specs.Versions.{next, difference}
+use Rattle.record_layout.specs.Declarations.{names}
 use Rattle.objects.specs.declared.Pair.{Pair}
 use Rattle.rules.specs.Tables.{State, objectAt, pairAt}
-use Rattle.rules.specs.Events.{names}
 use Rattle.runs.specs.Histories.{History, Transaction, isLive}
-use Rattle.runs.specs.Statements.{Within, declarers}
+use Rattle.runs.specs.Companions.{declarers}
+use Rattle.runs.specs.Runs.{Within}
 use Rattle.rules.proofs.Picking.{clash}
 use Rattle.runs.proofs.Scan.{declares, replayed, LiveFact, declarers-append}
 use Rattle.runs.proofs.Exchanged.{Parts, scan-parts}
@@ -29,7 +30,7 @@ wordBefore z words t q terminal local before = replayed q (standing z t q termin
 -- what is known of the live transaction of an event on an object that it has declared
 pub record Acts (z : Size) (words : List ℕ) (first : ℕ) (t : State) (before : History) (own : Transaction) (behind : History) (q : ℕ)
     (old : Object z words first t (before ++ own ∷ behind) q) : Type 0 where
-  pub named : names (own .list) q ≡ true
+  pub named : names (own .declarations) q ≡ true
   pub fact : LiveFact q first (standing z t q (old .terminal) (old .local)) (declarers q before)
       (wordBefore z words t q (old .terminal) (old .local) before) own
   pub counts : declares q own ≡ 1
@@ -44,20 +45,20 @@ module _ (z : Size) (within : Within z) (words : List ℕ) (first : ℕ) (t : St
   seen = scan-parts q first (standing z t q (old .terminal) (old .local)) (getD words q 0) before own behind (old .scan)
 
   -- what is declared is named by its list, and what is named is declared
-  pub declared-named : pairAt z t (own .slot) q .declared ≡ true → names (own .list) q ≡ true
-  declared-named declared = by (names (own .list) q) refl
+  pub declared-named : pairAt z t (own .slot) q .declared ≡ true → names (own .declarations) q ≡ true
+  declared-named declared = by (names (own .declarations) q) refl
     where
-      by : (b : Bool) → names (own .list) q ≡ b → names (own .list) q ≡ true
+      by : (b : Bool) → names (own .declarations) q ≡ b → names (own .declarations) q ≡ true
       by true e = e
       by false e = absurd (clash (sym declared ∙ ap (λ (p : Pair). p .declared) (seen .fact .none live e)))
 
-  pub named-declared : names (own .list) q ≡ true → pairAt z t (own .slot) q .declared ≡ true
+  pub named-declared : names (own .declarations) q ≡ true → pairAt z t (own .slot) q .declared ≡ true
   named-declared named = seen .fact .live live named .declared
 
   pub acts : declarers q (before ++ own ∷ behind) ≤ old .terminal + z .slots → pairAt z t (own .slot) q .declared ≡ true
       → Acts z words first t before own behind q old
   acts wide declared =
-      let named : names (own .list) q ≡ true = declared-named declared in
+      let named : names (own .declarations) q ≡ true = declared-named declared in
       let fact = seen .fact .live live named in
       let one : declares q own ≡ 1 = rw named in
       let all = declarers-append q before (own ∷ behind) in
@@ -71,7 +72,7 @@ module _ (z : Size) (within : Within z) (words : List ℕ) (first : ℕ) (t : St
         wide = omega (arith, all, one, wide, within .slots);
       }
 
--- 'd = 1' and 'terminal + 1 = private', in versions counted without wrapping
+-- R8, R9: the turn and the terminal need, in versions counted without wrapping
 module _ (z : Size) (words : List ℕ) (first : ℕ) (t : State) (before : History) (own : Transaction) (behind : History) (q : ℕ)
     (old : Object z words first t (before ++ own ∷ behind) q) (a : Acts z words first t before own behind q old) where
   pub at-its-turn : difference (pairAt z t (own .slot) q .private .0) (objectAt t q .local .0) ≡ 1 → old .local ≡ declarers q before

@@ -14,7 +14,9 @@ use Rattle.objects.specs.declared.Pair.{Pair}
 use Rattle.rules.specs.Tables.{State, objectAt, liveAt, pairAt}
 use Rattle.rules.specs.Steps.{callStep, releaseStep}
 use Rattle.runs.specs.Histories.{History, Transaction, Call, isLive, withCall}
-use Rattle.runs.specs.Statements.{Within, anyRolledBack, countLive, declarers}
+use Rattle.runs.specs.Demands.{anyRolledBack}
+use Rattle.runs.specs.Companions.{countLive, declarers}
+use Rattle.runs.specs.Runs.{Within}
 use Rattle.rules.proofs.Picking.{clash, and-false}
 use Rattle.rules.proofs.Accepted.{ReleaseFits, CallFits, call-accepted, release-accepted}
 use Rattle.rules.proofs.Called.{Called, GaveWay}

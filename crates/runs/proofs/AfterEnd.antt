@@ -9,15 +9,17 @@ use lib.ListN.{take}
 use borrow.Author.Tests.{eqb-true, eqb-false, ne-eqb, ltb-true, ltb-false}
 use Rattle.answers.specs.Order.{pick}
 use Rattle.counters.specs.Sizes.{Size}
+use Rattle.record_layout.specs.Declarations.{names}
 use Rattle.objects.specs.Places.{noPair, restores, spoiledPair}
 use Rattle.rules.specs.Tables.{State, objectAt, liveAt, pairAt}
 use Rattle.rules.specs.Steps.{endStep}
-use Rattle.rules.specs.Events.{names}
-use Rattle.runs.specs.Histories.{History, Transaction, Status, Live, Committed, RolledBack, isLive, isRolledBack, withEnd}
-use Rattle.runs.specs.Statements.{Within, anyRolledBack, countLive}
+use Rattle.runs.specs.Histories.{History, Transaction, Status, Live, Committed, RolledBack, isLive, isRolledBack, withEnd, statusOf}
+use Rattle.runs.specs.Demands.{anyRolledBack}
+use Rattle.runs.specs.Companions.{countLive}
+use Rattle.runs.specs.Runs.{Within}
 use Rattle.rules.proofs.Picking.{clash, and-assoc, and-false, or-true, pick-same}
 use Rattle.runs.proofs.OneObject.{callsOn}
-use Rattle.rules.proofs.Accepted.{EndFits, Unspoiled, commit-accepted, rollback-accepted}
+use Rattle.rules.proofs.Accepted.{EndFits, Unspoiled, commit-accepted, end-accepted}
 use Rattle.rules.proofs.Ended.{Ended}
 use Rattle.rules.proofs.EndLeaves.{EndLeaves, ended-word, ended-leaves, end-places}
 use Rattle.runs.proofs.EndRecords.{written-bytes}
@@ -28,7 +30,7 @@ use Rattle.runs.proofs.Invariant.{standing, Invariant, Object, Proper, 
 use Rattle.runs.proofs.RecordsKept.{records-exchanged}
 use Rattle.runs.proofs.Untouched.{moved, renamed, pair-outside, declared-lives}
 use Rattle.runs.proofs.Acting.{seen, named-declared, acts, at-its-end}
-use Rattle.runs.proofs.ObjectEnded.{statusOf, ended-status, object-ended}
+use Rattle.runs.proofs.ObjectEnded.{ended-status, object-ended}
 use Rattle.runs.proofs.EndsRead.{own-recorded}
 
 -- a rollback is in the history from then on, and a commit adds none
@@ -47,7 +49,7 @@ commit-adds-none [] own behind rollback written commits live = rw (commits, live
 commit-adds-none (x ∷ before) own behind rollback written commits live = rw (commit-adds-none before own behind rollback written commits live)
 
 -- a transaction that does not list the object is seen alike after its end
-fact-unlisted : (q first : ℕ) (v : Standing) (given word : ℕ) (rollback : Bool) (written : List ℕ) (own : Transaction) → names (own .list) q ≡ false
+fact-unlisted : (q first : ℕ) (v : Standing) (given word : ℕ) (rollback : Bool) (written : List ℕ) (own : Transaction) → names (own .declarations) q ≡ false
     → Fact q first v given word own → Fact q first v given word (withEnd (statusOf rollback) written own)
 fact-unlisted q first v given word rollback written own unnamed f =
     record {
@@ -71,16 +73,12 @@ module _ (z : Size) (within : Within z) (words : List ℕ) (first : ℕ) (t : St
   abbrev next : Transaction
   next = withEnd (statusOf rollback) written own
 
-  fits : (b : Bool) → endStep z b t (own .slot) tick buffer .reply .number ≡ 0 → EndFits z b t (own .slot) tick buffer
-  fits true accepted = rollback-accepted z t (own .slot) tick buffer .0 accepted
-  fits false accepted = commit-accepted z t (own .slot) tick buffer .0 accepted .end
-
   unspoiled : (b : Bool) → endStep z b t (own .slot) tick buffer .reply .number ≡ 0 → b ≡ false → Unspoiled z t (own .slot)
   unspoiled true accepted e = absurd (clash e)
   unspoiled false accepted e = commit-accepted z t (own .slot) tick buffer .0 accepted .unspoiled
 
   fitting : EndFits z rollback t (own .slot) tick buffer
-  fitting = fits rollback done
+  fitting = end-accepted z t rollback (own .slot) tick buffer done
 
   ends : Ended z rollback (own .slot) t u
   ends = end-places z t (inv .sized) (own .slot) tick buffer rollback done
@@ -140,10 +138,10 @@ module _ (z : Size) (within : Within z) (words : List ℕ) (first : ℕ) (t : St
       v : Standing
       v = standing z u q (old .terminal) (old .local)
 
-      unnamed : names (own .list) q ≡ false
-      unnamed = by (names (own .list) q) refl
+      unnamed : names (own .declarations) q ≡ false
+      unnamed = by (names (own .declarations) q) refl
         where
-          by : (b : Bool) → names (own .list) q ≡ b → names (own .list) q ≡ false
+          by : (b : Bool) → names (own .declarations) q ≡ b → names (own .declarations) q ≡ false
           by false e = e
           by true e = absurd (clash (sym (named-declared z within words first t before own behind live q old e) ∙ none))
 

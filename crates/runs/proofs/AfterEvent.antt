@@ -6,40 +6,35 @@ use mathlib.Core.Path.{_≡_, refl, ap, subst}
 use lib.Dec.{eqb}
 use lib.ListN.{take}
 use borrow.Author.Tests.{eqb-true, eqb-false}
-use Rattle.answers.proofs.Deciding.{passed}
 use Rattle.counters.specs.Sizes.{Size}
+use Rattle.record_layout.specs.declared.fields.Event.{Event}
+use Rattle.record_layout.specs.declared.fields.Event
 use Rattle.record_layout.specs.declared.fields.Fields.{Fields}
 use Rattle.record_layout.specs.declared.fields.Fields
 use Rattle.kinds.specs.Kinds.{acted}
-use Rattle.rules.specs.Tables.{State, objectAt, liveAt, pairAt}
-use Rattle.rules.specs.Refusing.{doomed, callRules}
-use Rattle.rules.specs.Steps.{Stepping, unchanged, callStep, releaseStep, endStep, eventStep}
-use Rattle.rules.specs.Events.{Event, outcomeOf}
-use Rattle.runs.specs.Histories.{History, Transaction, Call, changed, withCall, withEnd, extended}
-use Rattle.runs.specs.Statements.{Within, countLive}
-use Rattle.runs.specs.Runs.{Run, after}
-use Rattle.rules.proofs.Refused.{event-refused}
-use Rattle.rules.proofs.Exactly.{call-exactly}
-use Rattle.rules.proofs.Accepted.{call-accepted, release-accepted, commit-accepted, rollback-accepted}
+use Rattle.rules.specs.Tables.{State, objectAt, liveAt}
+use Rattle.rules.specs.Steps.{Stepping, callStep, releaseStep, endStep, eventStep, fieldsStep}
+use Rattle.rules.specs.Events.{Handed, outcomeOf}
+use Rattle.runs.specs.Histories.{History, Transaction, Call, changed, withCall, withEnd, extended, extendedBy, statusOf}
+use Rattle.runs.specs.Companions.{countLive}
+use Rattle.runs.specs.Runs.{Within, Run, after}
+use Rattle.rules.proofs.Refused.{fields-refused}
+use Rattle.rules.proofs.Exactly.{call-comes}
+use Rattle.rules.proofs.Accepted.{call-accepted, release-accepted, end-accepted}
 use Rattle.runs.proofs.Found.{Found, changed-found}
 use Rattle.runs.proofs.Invariant.{Invariant}
-use Rattle.runs.proofs.EntriesHold.{found-of}
+use Rattle.runs.proofs.PairsHold.{found-of}
 use Rattle.runs.proofs.AfterStart.{start-kept}
 use Rattle.runs.proofs.AfterCall.{call-kept, release-kept}
-use Rattle.runs.proofs.ObjectEnded.{statusOf}
 use Rattle.runs.proofs.AfterEnd.{end-kept}
 
 -- the answer of an accepted call is that of the kinds table
 call-answers : (z : Size) (t : State) (s o kind argument : ℕ) → callStep z t s o kind argument .reply .number ≡ 0
     → callStep z t s o kind argument .reply .value ≡ acted kind (objectAt t o .word) argument .answer
-call-answers z t s o kind argument done =
-    ap (λ (stepping : Stepping). stepping .reply .value)
-    (passed (callRules z s o kind (liveAt t s) (doomed z t s) (pairAt z t s o) (objectAt t o)) (unchanged t) _
-    (call-exactly z t s o kind argument .accepts .0 done))
+call-answers z t s o kind argument done = ap (λ (stepping : Stepping). stepping .reply .value) (call-comes z t s o kind argument done)
 
 pub end-live : (z : Size) (t : State) (rollback : Bool) (s tick : ℕ) (buffer : List ℕ) → endStep z rollback t s tick buffer .reply .number ≡ 0 → liveAt t s ≡ true
-end-live z t true s tick buffer done = rollback-accepted z t s tick buffer .0 done .live
-end-live z t false s tick buffer done = commit-accepted z t s tick buffer .0 done .end .live
+end-live z t rollback s tick buffer done = end-accepted z t rollback s tick buffer done .live
 
 module _ (z : Size) (within : Within z) (words : List ℕ) (first : ℕ) (run : Run) (inv : Invariant z words first run) where
   abbrev t : State
@@ -112,22 +107,25 @@ module _ (z : Size) (within : Within z) (words : List ℕ) (first : ℕ) (run : 
       rw (changed-found s (run .history) f (withEnd (statusOf rollback) (writtenBy rollback s tick buffer))) (found-ended s f rollback tick buffer done)
 
   -- an accepted event
-  accepted : (fields : Fields) (list buffer : List ℕ) → eventStep z t fields list buffer .reply .number ≡ 0
-      → Kept (eventStep z t fields list buffer .tables)
-      (extended fields list (eventStep z t fields list buffer .reply .value) (eventStep z t fields list buffer .buffer) (run .history))
-  accepted (Fields.Fresh version) list buffer done = inv
-  accepted (Fields.Start slot) list buffer done = start-kept z words first run inv (slot .0) list done
-  accepted (Fields.Call slot object kind argument) list buffer done = called (slot .0) (object .0) kind argument done
-  accepted (Fields.Release slot object) list buffer done = released (slot .0) (object .0) done
-  accepted (Fields.Commit slot tick) list buffer done = ended false (slot .0) tick buffer done
-  accepted (Fields.Rollback slot tick) list buffer done = ended true (slot .0) tick buffer done
-  accepted (Fields.Committed tick slot) list buffer done = inv
-  accepted (Fields.RolledBack tick slot) list buffer done = inv
+  accepted : (event : Event) (list buffer : List ℕ) → eventStep z t event list buffer .reply .number ≡ 0
+      → Kept (eventStep z t event list buffer .tables)
+      (extended event list (eventStep z t event list buffer .reply .value) (eventStep z t event list buffer .buffer) (run .history))
+  accepted (Event.Start slot) list buffer done = start-kept z words first run inv (slot .0) list done
+  accepted (Event.Call slot object kind argument) list buffer done = called (slot .0) (object .0) kind argument done
+  accepted (Event.Release slot object) list buffer done = released (slot .0) (object .0) done
+  accepted (Event.End slot tick rollback) list buffer done = ended rollback (slot .0) tick buffer done
 
-  pub after-kept : (event : Event) → Invariant z words first (after z run event)
-  after-kept event = by (eqb (outcomeOf z t event .reply .number) 0) refl
+  accepted-by : (fields : Fields) (list buffer : List ℕ) → fieldsStep z t fields list buffer .reply .number ≡ 0
+      → Kept (fieldsStep z t fields list buffer .tables)
+      (extendedBy fields list (fieldsStep z t fields list buffer .reply .value) (fieldsStep z t fields list buffer .buffer) (run .history))
+  accepted-by (Fields.Fresh version) list buffer done = inv
+  accepted-by (Fields.Event event) list buffer done = accepted event list buffer done
+  accepted-by (Fields.Ended tick slot rollback) list buffer done = inv
+
+  pub after-kept : (handed : Handed) → Invariant z words first (after z run handed)
+  after-kept handed = by (eqb (outcomeOf z t handed .reply .number) 0) refl
     where
-      by : (b : Bool) → eqb (outcomeOf z t event .reply .number) 0 ≡ b → Invariant z words first (after z run event)
-      by true e = rw e (accepted (event .fields) (event .list) (event .buffer) (eqb-true (outcomeOf z t event .reply .number) 0 e))
+      by : (b : Bool) → eqb (outcomeOf z t handed .reply .number) 0 ≡ b → Invariant z words first (after z run handed)
+      by true e = rw e (accepted-by (handed .fields) (handed .list) (handed .buffer) (eqb-true (outcomeOf z t handed .reply .number) 0 e))
       by false e =
-          rw (e, event-refused z t (event .fields) (event .list) (event .buffer) (eqb-false (outcomeOf z t event .reply .number) 0 e) .tables) inv
+          rw (e, fields-refused z t (handed .fields) (handed .list) (handed .buffer) (eqb-false (outcomeOf z t handed .reply .number) 0 e) .tables) inv

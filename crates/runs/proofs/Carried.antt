@@ -8,11 +8,11 @@ use native.Mathlib.Omega.{arith}
 use borrow.Author.Tests.{eq-eqb}
 use Rattle.answers.specs.Order.{pick}
 use Rattle.counters.specs.declared.Version.{Version}
+use Rattle.record_layout.specs.Declarations.{names}
 use Rattle.objects.specs.Places.{noPair}
 use Rattle.objects.specs.declared.Pair.{Pair}
-use Rattle.rules.specs.Events.{names}
 use Rattle.runs.specs.Histories.{History, Transaction, Call, Status, Live, Committed, RolledBack, isLive, isCommitted, livesIn}
-use Rattle.runs.specs.Statements.{countLive, declarers}
+use Rattle.runs.specs.Companions.{countLive, declarers}
 use Rattle.rules.proofs.Picking.{clash, pick-when}
 use Rattle.runs.proofs.OneObject.{callsOn, replay, Agree}
 use Rattle.runs.proofs.Scan.{Standing, declares, stands, wordAfter, replayed, LiveFact, Fact, Scan, carry}
@@ -22,7 +22,7 @@ pub other-slot : (s : ℕ) (x : Transaction) → livesIn s x ≡ false → isLiv
 other-slot s x idle live same = clash (rw (live, eq-eqb (x .slot) s same) at idle)
 
 -- a transaction that declares the object counts
-one-declares : (o : ℕ) (x : Transaction) → names (x .list) o ≡ true → declares o x ≡ 1
+one-declares : (o : ℕ) (x : Transaction) → names (x .declarations) o ≡ true → declares o x ≡ 1
 one-declares o x named = rw named
 
 -- whether the calls stand is told by the spoiled mark, where it is live
@@ -67,9 +67,9 @@ module _ (o first s : ℕ) (v n : Standing) (low high : ℕ) (keeping : Keeping 
 
   spoiled-kept : (given word : ℕ) (x : Transaction) → low ≤ given → given + declares o x ≤ high → livesIn s x ≡ false → Fact o first v given word x
       → isLive (x .status) ≡ true → n .pair (x .slot) .spoiled ≡ v .pair (x .slot) .spoiled
-  spoiled-kept given word x above below idle f live = by (names (x .list) o) refl
+  spoiled-kept given word x above below idle f live = by (names (x .declarations) o) refl
     where
-      by : (b : Bool) → names (x .list) o ≡ b → n .pair (x .slot) .spoiled ≡ v .pair (x .slot) .spoiled
+      by : (b : Bool) → names (x .declarations) o ≡ b → n .pair (x .slot) .spoiled ≡ v .pair (x .slot) .spoiled
       by false e =
           let zero : v .pair (x .slot) ≡ noPair = f .none live e in
           rw (zero, keeping .bare (x .slot) (other-slot s x idle live) zero)
@@ -142,14 +142,14 @@ module _ (o first s : ℕ) (v n : Standing) (low : ℕ) (word : ℕ) (behind : v
   -- where calls stand there are none
   standing-silent : (given before : ℕ) (x : Transaction) → low ≤ given → livesIn s x ≡ false → Fact o first v given before x
       → stands n x ≡ true → callsOn o (x .calls) ≡ []
-  standing-silent given before x above idle f standing = by (names (x .list) o) refl (isLive (x .status)) refl
+  standing-silent given before x above idle f standing = by (names (x .declarations) o) refl (isLive (x .status)) refl
     where
       by-call : isLive (x .status) ≡ true → Marked (v .pair (x .slot)) (n .pair (x .slot)) → LiveFact o first v given before x
           → (b : Bool) → n .pair (x .slot) .called ≡ b → callsOn o (x .calls) ≡ []
       by-call live m g false e = g .silent (sym (m .called) ∙ e)
       by-call live m g true e = absurd (clash (sym standing ∙ rw (live-uncommitted (x .status) live, live, m .spoiled e)))
 
-      by : (b : Bool) → names (x .list) o ≡ b → (l : Bool) → isLive (x .status) ≡ l → callsOn o (x .calls) ≡ []
+      by : (b : Bool) → names (x .declarations) o ≡ b → (l : Bool) → isLive (x .status) ≡ l → callsOn o (x .calls) ≡ []
       by false e l d = f .unlisted e
       by true e false d = let old : given < v .terminal = f .past d e in absurd (omega arith)
       by true e true d =

@@ -8,11 +8,12 @@ use lib.ListN.{length, getD}
 use borrow.Author.Tests.{eq-eqb}
 use Rattle.answers.specs.Order.{pick}
 use Rattle.counters.specs.Sizes.{Size}
-use Rattle.rules.specs.Events.{names}
+use Rattle.record_layout.specs.Declarations.{names}
 use Rattle.runs.specs.Histories.{History, Status, Live, Committed, RolledBack, isLive, isCommitted}
 use Rattle.runs.specs.LoneRun.{committedCalls}
 use Rattle.runs.specs.Runs.{Run}
-use Rattle.runs.specs.Statements.{AnswersAlone, WordsAlone, countLive, anyLive}
+use Rattle.runs.specs.Demands.{AnswersAlone, WordsAlone, anyLive}
+use Rattle.runs.specs.Companions.{countLive}
 use Rattle.rules.proofs.Picking.{clash, pick-same}
 use Rattle.runs.proofs.OneObject.{callsOn, replay, Agree, calls-append, replay-append, agree-append}
 use Rattle.runs.proofs.Alone.{Inside, inside-append, lone-answers, words-are}
@@ -27,14 +28,14 @@ module _ (o first : ℕ) (v : Standing) where
   silent-behind given word (x ∷ xs) above scan =
       by (isCommitted (x .status)) refl (silent-behind (given + declares o x) (wordAfter o v word x) xs (omega arith) (scan .1))
     where
-      silent : isCommitted (x .status) ≡ true → (named : Bool) → names (x .list) o ≡ named → callsOn o (x .calls) ≡ []
+      silent : isCommitted (x .status) ≡ true → (named : Bool) → names (x .declarations) o ≡ named → callsOn o (x .calls) ≡ []
       silent committed true e =
           let past : given < v .terminal = scan .0 .past (committed-ended (x .status) committed) e in
           absurd (omega arith)
       silent committed false e = scan .0 .unlisted e
 
       by : (committed : Bool) → isCommitted (x .status) ≡ committed → callsOn o (committedCalls xs) ≡ [] → callsOn o (committedCalls (x ∷ xs)) ≡ []
-      by true e rest = rw e (calls-append o (x .calls) (committedCalls xs) ∙ rw (silent e (names (x .list) o) refl, rest))
+      by true e rest = rw e (calls-append o (x .calls) (committedCalls xs) ∙ rw (silent e (names (x .declarations) o) refl, rest))
       by false e rest = rw e rest
 
   -- the calls of the committed transactions agree with the word replayed so far
@@ -42,7 +43,7 @@ module _ (o first : ℕ) (v : Standing) where
   agrees-along given word [] scan = tt
   agrees-along given word (x ∷ xs) scan = by (x .status) refl (agrees-along (given + declares o x) (wordAfter o v word x) xs (scan .1))
     where
-      behind-live : isLive (x .status) ≡ true → (named : Bool) → names (x .list) o ≡ named
+      behind-live : isLive (x .status) ≡ true → (named : Bool) → names (x .declarations) o ≡ named
           → Agree (callsOn o (committedCalls xs)) (wordAfter o v word x) → Agree (callsOn o (committedCalls xs)) word
       behind-live live true e rest =
           let ahead : v .terminal ≤ given = scan .0 .live live e .ahead in
@@ -51,7 +52,7 @@ module _ (o first : ℕ) (v : Standing) where
 
       by : (status : Status) → x .status ≡ status → Agree (callsOn o (committedCalls xs)) (wordAfter o v word x)
           → Agree (callsOn o (committedCalls (x ∷ xs))) word
-      by Live e rest = rw e (behind-live (rw e) (names (x .list) o) refl rest)
+      by Live e rest = rw e (behind-live (rw e) (names (x .declarations) o) refl rest)
       by Committed e rest =
           rw (e, calls-append o (x .calls) (committedCalls xs))
           (agree-append (callsOn o (x .calls)) (callsOn o (committedCalls xs)) word (scan .0 .agrees (rw e)) (rw e at rest))

@@ -10,13 +10,14 @@ use borrow.Author.Tests.{eqb-false, eq-eqb, le-leb}
 use Rattle.counters.specs.Sizes.{Size}
 use Rattle.counters.specs.Versions.{turnover, next, unwrappedTurn}
 use Rattle.counters.proofs.Turnover.{turn-unwrapped}
+use Rattle.record_layout.specs.Declarations.{names}
 use Rattle.objects.specs.Places.{turnOf, saysWait}
 use Rattle.objects.specs.declared.Pair.{Pair}
 use Rattle.rules.specs.Tables.{State, objectAt, liveAt, pairAt}
-use Rattle.rules.specs.Events.{names}
 use Rattle.runs.specs.Histories.{History, Transaction, isLive}
-use Rattle.runs.specs.Runs.{Run}
-use Rattle.runs.specs.Statements.{Within, Earliest, Served, anyLive, countLive, declarers}
+use Rattle.runs.specs.Runs.{Within, Run}
+use Rattle.runs.specs.Demands.{Earliest, Served, anyLive}
+use Rattle.runs.specs.Companions.{countLive, declarers}
 use Rattle.rules.proofs.Picking.{clash}
 use Rattle.runs.proofs.Found.{count-append}
 use Rattle.runs.proofs.Scan.{Standing, declares, wordAfter, replayed, LiveFact, Scan}
@@ -33,7 +34,7 @@ module _ (o first : ℕ) (v : Standing) where
   all-ended given word [] none low scan = omega arith
   all-ended given word (x ∷ xs) none low scan = by (isLive (x .status)) refl (all-ended (given + declares o x) (wordAfter o v word x) xs)
     where
-      own : isLive (x .status) ≡ false → (named : Bool) → names (x .list) o ≡ named → given + declares o x ≤ v .terminal
+      own : isLive (x .status) ≡ false → (named : Bool) → names (x .declarations) o ≡ named → given + declares o x ≤ v .terminal
       own ended true e = let past : given < v .terminal = scan .0 .past ended e in rw e (omega arith)
       own ended false e = rw e (omega arith)
 
@@ -42,7 +43,7 @@ module _ (o first : ℕ) (v : Standing) where
           → given + declares o x + declarers o xs ≤ v .terminal)
           → given + declarers o (x ∷ xs) ≤ v .terminal
       by true e rest = absurd (clash (rw e at none))
-      by false e rest = omega (arith, rest (rw e at none) (own e (names (x .list) o) refl) (scan .1))
+      by false e rest = omega (arith, rest (rw e at none) (own e (names (x .declarations) o) refl) (scan .1))
 
 -- a version that is at most the next does not wait
 next-no-wait : (private local : ℕ) → private ≤ local + 1 → saysWait (unwrappedTurn private local) ≡ false
@@ -65,9 +66,9 @@ module _ {z : Size} {words : List ℕ} {first : ℕ} {t : State} {history : Hist
 
   -- all that declared the object before it have ended, so its version is the one after the terminal version
   private-is : pairAt z t (x .slot) o .declared ≡ true → pairAt z t (x .slot) o .private .0 ≡ (first + suc (object .terminal)) % turnover
-  private-is declared = by (names (x .list) o) refl
+  private-is declared = by (names (x .declarations) o) refl
     where
-      by : (named : Bool) → names (x .list) o ≡ named → pairAt z t (x .slot) o .private .0 ≡ (first + suc (object .terminal)) % turnover
+      by : (named : Bool) → names (x .declarations) o ≡ named → pairAt z t (x .slot) o .private .0 ≡ (first + suc (object .terminal)) % turnover
       by true e =
           let own : LiveFact o first seen (declarers o (earliest .before)) (replayed o seen (getD words o 0) (earliest .before)) x =
           parts .fact .live (earliest .live) e in

@@ -17,9 +17,10 @@ use Rattle.record_layout.specs.Fields.{recordOf}
 use Rattle.record_layout.specs.Fitting.{Fit}
 use Rattle.record_layout.specs.Kinds.{shapeOf, bodyLimit}
 use Rattle.record_layout.specs.Writing.{readable}
-use Rattle.record_layout.specs.declared.kind.Kind.{Kind}
-use Rattle.record_layout.specs.declared.kind.Kind.the-variants.{Committed, RolledBack}
+use Rattle.record_layout.specs.declared.kind.Kind.the-variants.{Ended}
 use Rattle.record_layout.specs.declared.fields.Fields.{Fields}
+use Rattle.record_layout.specs.declared.fields.Reading.{Reading}
+use Rattle.record_layout.specs.declared.fields.Reading
 use Rattle.record_layout.proofs.LittleEndian.{word-again}
 use Rattle.record_layout.proofs.Lengths.{length-record, readable-beside}
 use Rattle.record_layout.proofs.ReadBack.{ReadsAs, written-reads-back}
@@ -27,8 +28,10 @@ use Rattle.record_order.specs.CommonObject.{Lists}
 use Rattle.rules.specs.Tables.{State, pairAt}
 use Rattle.rules.specs.Effects.{endEntries, endFields, endRecord}
 use Rattle.rules.specs.Steps.{Outcome, endStep}
-use Rattle.runs.specs.Statements.{Within, roomForEnd, declaredEntries, ReadsBack}
-use Rattle.rules.proofs.Exactly.{end-passes, end-comes}
+use Rattle.runs.specs.Demands.{roomForEnd}
+use Rattle.runs.specs.Companions.{declaredEntries, ReadsBack}
+use Rattle.runs.specs.Runs.{Within}
+use Rattle.rules.proofs.Exactly.{end-comes}
 use Rattle.runs.proofs.JoinedEntries.{below-length, below-short, below-read, below-rises, below-lists}
 
 module _ (z : Size) (s : ℕ) (t : State) where
@@ -50,18 +53,12 @@ module _ (z : Size) (s : ℕ) (t : State) where
 -- both ends have fields of one shape
 module _ (s tick : ℕ) (list : List ℕ) where
   length-end : (rollback : Bool) → length (recordOf (endFields rollback tick s) list) ≡ 10 + length list
-  length-end true = length-record (endFields true tick s) list ∙ omega arith
-  length-end false = length-record (endFields false tick s) list ∙ omega arith
+  length-end rollback = length-record (endFields rollback tick s) list ∙ omega arith
 
   readable-end : (z : Size) (rollback : Bool)
       → readable z (endFields rollback tick s) list
       ≡ (leb (6 + length list) (bodyLimit z) && (eqb (length list) (5 * (length list / 5)) && endBeside z (record { 0 = s }) list))
-  readable-end z true = readable-beside z (endFields true tick s) list
-  readable-end z false = readable-beside z (endFields false tick s) list
-
-fit-end : (rollback : Bool) (s tick : ℕ) → tick < turnover → s < 256 → Fit (endFields rollback tick s)
-fit-end true s tick short slot = (short, slot)
-fit-end false s tick short slot = (short, slot)
+  readable-end z rollback = readable-beside z (endFields rollback tick s) list
 
 -- a word's bytes are those of its 32 low bits
 word-wraps : (n : ℕ) → wordBytes (n % turnover) ≡ wordBytes n
@@ -73,16 +70,12 @@ word-wraps n =
 -- so a record is that of the 32 low bits of its tick
 tick-wraps : (rollback : Bool) (s tick : ℕ) (list : List ℕ)
     → recordOf (endFields rollback (tick % turnover) s) list ≡ recordOf (endFields rollback tick s) list
-tick-wraps rollback s tick list = by rollback
+tick-wraps rollback s tick list = ap around (word-wraps tick)
   where
-    around : Kind → List ℕ → List ℕ
-    around kind bytes = halfBytes (6 + length list) ++ (halfBytes (shapeOf kind .number) ++ (bytes ++ (s ∷ length list / 5 ∷ []))) ++ list
+    around : List ℕ → List ℕ
+    around bytes = halfBytes (6 + length list) ++ (halfBytes (shapeOf (Ended rollback) .number) ++ (bytes ++ (s ∷ length list / 5 ∷ []))) ++ list
 
-    by : (rollback : Bool) → recordOf (endFields rollback (tick % turnover) s) list ≡ recordOf (endFields rollback tick s) list
-    by true = ap (around RolledBack) (word-wraps tick)
-    by false = ap (around Committed) (word-wraps tick)
-
--- the record fits the room that the paper gives an end
+-- R23: the record fits the room for an end
 pub record-fits : (z : Size) (rollback : Bool) (s tick : ℕ) (t : State) → length (endRecord z rollback s tick t) ≤ roomForEnd z
 record-fits z rollback s tick t = omega (arith, length-end s tick (endEntries z s t) rollback, entries-length z s t)
 
@@ -132,18 +125,21 @@ pub record-reads-back : (z : Size) → Within z → (t : State) (rollback : Bool
 record-reads-back z within t rollback s tick rest lists =
     let list : List ℕ = endEntries z s t in
     let fields : Fields = endFields rollback (tick % turnover) s in
-    let fit : Fit fields = fit-end rollback s (tick % turnover) (omega arith) (omega (arith, lists .slot, within .slots)) in
+    let fit : Fit fields = (omega arith, omega (arith, lists .slot, within .slots)) in
     let reads : ReadsAs z (recordOf fields list ++ rest) fields list =
     written-reads-back z fields list rest (omega (arith, within .objects)) fit (end-readable lists rollback (tick % turnover)) in
     subst (λ (bytes : List ℕ). ReadsBack z t rollback s tick (bytes ++ rest)) (tick-wraps rollback s tick list)
-    (record { fields = reads .0; entries = ap entriesOf (reads .1) ∙ entries-are lists })
+    (record {
+      record-is = reads .record-is ∙ ap (Reading.Record fields 10) (length-end s (tick % turnover) list rollback ∙ ap (λ (n : ℕ). 10 + n) (entries-count z s t));
+      entries = ap entriesOf (reads .list-is) ∙ entries-are lists;
+    })
 
 module _ (z : Size) (t : State) (rollback : Bool) (s tick : ℕ) (buffer : List ℕ) (done : endStep z rollback t s tick buffer .reply .number ≡ 0) where
   -- an accepted end has its record at the buffer's first byte, and its value is the bytes written
   pub end-written : (endStep z rollback t s tick buffer .buffer ≡ endRecord z rollback s tick t ++ drop (length (endRecord z rollback s tick t)) buffer)
       × (endStep z rollback t s tick buffer .reply .value ≡ length (endRecord z rollback s tick t))
   end-written =
-      let comes = end-comes z t rollback s tick buffer (end-passes z t rollback s tick buffer done) in
+      let comes = end-comes z t rollback s tick buffer done in
       (ap (λ (outcome : Outcome). outcome .buffer) comes, ap (λ (outcome : Outcome). outcome .reply .value) comes)
 
   -- so those bytes are the record

@@ -6,21 +6,16 @@ use mathlib.Core.Path.{_≡_, refl, ap, _∙_}
 use native.Mathlib.Omega.{arith}
 use Rattle.counters.specs.Sizes.{Size}
 use Rattle.counters.specs.Versions.{turnover}
-use Rattle.record_order.specs.CameFirst.{ofEnd}
+use Rattle.record_layout.specs.Declarations.{names}
 use Rattle.rules.specs.Tables.{State, pairAt}
-use Rattle.rules.specs.Effects.{endFields, endRecord}
-use Rattle.rules.specs.Events.{names}
+use Rattle.rules.specs.Effects.{endRecord}
 use Rattle.runs.specs.Histories.{History, Transaction, isLive}
-use Rattle.runs.specs.Statements.{Within, ReadsBack, declarers}
+use Rattle.runs.specs.Companions.{ReadsBack, declarers}
+use Rattle.runs.specs.Runs.{Within}
 use Rattle.runs.proofs.EndRecords.{Listing, record-reads-back, declared-listed, listed-declared}
 use Rattle.runs.proofs.RecordOrder.{Recorded}
 use Rattle.runs.proofs.Invariant.{Invariant, Proper, all-at}
 use Rattle.runs.proofs.Acting.{seen, declared-named, named-declared}
-
--- the fields of an end are those of an end
-fields-end : (rollback : Bool) (tick s : ℕ) → ofEnd (endFields rollback tick s) ≡ true
-fields-end true tick s = refl
-fields-end false tick s = refl
 
 module _ (z : Size) (within : Within z) (words : List ℕ) (first : ℕ) (t : State) (before : History) (own : Transaction) (behind : History)
     (inv : Invariant z words first (record { tables = t; history = before ++ own ∷ behind })) (live : isLive (own .status) ≡ true)
@@ -28,7 +23,7 @@ module _ (z : Size) (within : Within z) (words : List ℕ) (first : ℕ) (t : St
   proper : Proper z own
   proper = all-at (Proper z) before own behind (inv .proper)
 
-  named-private : (q : ℕ) → q < z .objects → names (own .list) q ≡ true → pairAt z t (own .slot) q .private .0 ≡ (first + suc (declarers q before)) % turnover
+  named-private : (q : ℕ) → q < z .objects → names (own .declarations) q ≡ true → pairAt z t (own .slot) q .private .0 ≡ (first + suc (declarers q before)) % turnover
   named-private q below named = seen z within words first t before own behind live q (inv .objects q below) .fact .live live named .private
 
   pub own-listing : Listing z t (own .slot)
@@ -40,10 +35,10 @@ module _ (z : Size) (within : Within z) (words : List ℕ) (first : ℕ) (t : St
         declared =
             named-declared z within words first t before own behind live (proper .some)
             (inv .objects (proper .some) (proper .inside (proper .some) (proper .named))) (proper .named);
-        fits = λ q below. by q below (names (own .list) q) refl;
+        fits = λ q below. by q below (names (own .declarations) q) refl;
       }
     where
-      by : (q : ℕ) → q < z .objects → (b : Bool) → names (own .list) q ≡ b → pairAt z t (own .slot) q .private .0 < turnover
+      by : (q : ℕ) → q < z .objects → (b : Bool) → names (own .declarations) q ≡ b → pairAt z t (own .slot) q .private .0 < turnover
       by q below true e = rw (named-private q below e) (omega arith)
       by q below false e =
           rw (seen z within words first t before own behind live q (inv .objects q below) .fact .none live e) (omega arith)
@@ -53,10 +48,10 @@ module _ (z : Size) (within : Within z) (words : List ℕ) (first : ℕ) (t : St
   own-reads-back rollback tick rest = record-reads-back z within t rollback (own .slot) tick rest own-listing
 
   pub own-recorded : (rollback : Bool) (tick : ℕ) (version : ℕ → ℕ) → ((q : ℕ) → version q ≡ first + 1 + declarers q before)
-      → Recorded z (endRecord z rollback (own .slot) tick t) (own .list) version
+      → Recorded z (endRecord z rollback (own .slot) tick t) (own .declarations) version
   own-recorded rollback tick version counted =
       record {
-        is-end = rw (reads .fields) (fields-end rollback (tick % turnover) (own .slot));
+        is-end = rw (reads .record-is);
         listed =
             λ q named.
             let below : q < z .objects = proper .inside q named in

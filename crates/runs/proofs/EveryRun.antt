@@ -1,4 +1,4 @@
--- The theorem: what `Statements` says holds after every run from fresh, for any sizes within the bound, and so for the pump.
+-- The theorem: demands and companions hold after every run from fresh, for any sizes within the bound, and so for the pump.
 use Prim.Native.Nat.{ℕ, zero, suc, _+_, _*_, _<_}
 use mathlib.Core.Bool.{Bool, true, false}
 use mathlib.Core.List.{List, [], _∷_, _++_, map, append-assoc}
@@ -12,10 +12,11 @@ use Rattle.counters.specs.Versions.{turnover}
 use Rattle.objects.specs.Places.{noPair}
 use Rattle.rules.specs.Tables.{State, noObject, objectAt, liveAt, pairAt, freshObject, freshTables}
 use Rattle.rules.specs.Effects.{endRecord}
-use Rattle.rules.specs.Events.{Event}
+use Rattle.rules.specs.Events.{Handed}
 use Rattle.runs.specs.Histories.{History}
-use Rattle.runs.specs.Runs.{Run, freshRun, runFrom, runOf, after}
-use Rattle.runs.specs.Statements.{Within, EveryRun, roomForEnd, EndsReadBack, ReadsBack, TrueOrder, NoneDoomed, unwrapped}
+use Rattle.runs.specs.Runs.{Within, Run, freshRun, runFrom, runOf, after}
+use Rattle.runs.specs.Demands.{Demands, roomForEnd, NoneDoomed}
+use Rattle.runs.specs.Companions.{Companions, EndsReadBack, ReadsBack, TrueOrder, unwrapped}
 use Rattle.rules.proofs.Stores.{sized-fresh}
 use Rattle.rules.proofs.Walking.{none-any}
 use Rattle.runs.proofs.Scan.{declares, declarers-append}
@@ -25,7 +26,7 @@ use Rattle.runs.proofs.RecordOrder.{in-true-order}
 use Rattle.runs.proofs.RecordsKept.{Records, records-at}
 use Rattle.runs.proofs.Invariant.{Invariant, Object}
 use Rattle.runs.proofs.VersionsBetween.{between}
-use Rattle.runs.proofs.EntriesHold.{found-of, entries-right}
+use Rattle.runs.proofs.PairsHold.{found-of, pairs-right}
 use Rattle.runs.proofs.CommittedAlone.{answers-alone, words-alone}
 use Rattle.runs.proofs.EarliestServed.{earliest-served}
 use Rattle.runs.proofs.Untouched.{pair-outside, live-inside}
@@ -72,9 +73,9 @@ module _ (z : Size) (words : List ℕ) (first : ℕ) (all : length words ≡ z .
         clean = λ none s o slot below. rw (always (z .slots * z .objects) (s * z .objects + o) noPair);
       }
 
-  kept-along : Within z → (run : Run) → Invariant z words first run → (events : List Event) → Invariant z words first (runFrom z run events)
+  kept-along : Within z → (run : Run) → Invariant z words first run → (events : List Handed) → Invariant z words first (runFrom z run events)
   kept-along within run inv [] = inv
-  kept-along within run inv (event ∷ events) = kept-along within (after z run event) (after-kept z within words first run inv event) events
+  kept-along within run inv (handed ∷ rest) = kept-along within (after z run handed) (after-kept z within words first run inv handed) rest
 
 module _ (z : Size) (within : Within z) (words : List ℕ) (first : ℕ) (run : Run) (inv : Invariant z words first run) where
   abbrev t : State
@@ -110,7 +111,7 @@ module _ (z : Size) (within : Within z) (words : List ℕ) (first : ℕ) (run : 
 
   true-order : TrueOrder z first (run .history)
   true-order o two near =
-      in-true-order z (two .earlier .written) (two .later .written) (two .earlier .list) (two .later .list)
+      in-true-order z (two .earlier .written) (two .later .written) (two .earlier .declarations) (two .later .declarations)
       (λ q. unwrapped first q (two .before)) (λ q. unwrapped first q (two .before ++ two .earlier ∷ two .between))
       (records-at z (λ q. first + 1) (two .before) (two .earlier) (two .between ++ two .later ∷ two .behind) records
       (λ q. unwrapped first q (two .before)) (λ q. omega arith) (two .earlier-ended))
@@ -128,26 +129,33 @@ module _ (z : Size) (within : Within z) (words : List ℕ) (first : ℕ) (run : 
       later : unwrapped first o (two .before) < unwrapped first o (two .before ++ two .earlier ∷ two .between)
       later = omega (arith, declarers-append o (two .before) (two .earlier ∷ two .between), one)
 
-  holds : length words ≡ z .objects → EveryRun z words first run
-  holds all =
+  demands : length words ≡ z .objects → Demands z words run
+  demands all =
       record {
         answers-alone = answers-alone all inv;
         words-alone = words-alone all inv;
-        live = inv .live;
-        earliest = earliest-served z within inv;
+        earliest-served = earliest-served z within inv;
         none-doomed = none-doomed;
+      }
+
+  companions : Companions z first run
+  companions =
+      record {
+        live-once = inv .live;
         between = between z within words first run inv;
-        entries = entries-right z words first run inv;
-        read-back = read-back;
-        order = true-order;
+        pairs-right = pairs-right z words first run inv;
+        ends-read-back = read-back;
+        true-order = true-order;
       }
 
 -- after any events, refused ones too, from any words and any first version
 pub every-run : (z : Size) → Within z → (words : List ℕ) (first : ℕ) → length words ≡ z .objects → first < turnover
-    → (events : List Event) → EveryRun z words first (runOf z words first events)
+    → (events : List Handed) → Demands z words (runOf z words first events) × Companions z first (runOf z words first events)
 every-run z within words first all small events =
-    holds z within words first (runOf z words first events)
-    (kept-along z words first all small within (freshRun z words first) (fresh-holds z words first all small) events) all
+    let run : Run = runOf z words first events in
+    let inv : Invariant z words first run =
+    kept-along z words first all small within (freshRun z words first) (fresh-holds z words first all small) events in
+    (demands z within words first run inv all, companions z within words first run inv)
 
 -- the pump
 pub base-within : Within base
@@ -156,6 +164,6 @@ base-within = record { slots = omega arith; objects = omega arith }
 pub room-is-130 : roomForEnd base ≡ 130
 room-is-130 = refl
 
-pub every-run-of-the-pump : (words : List ℕ) (first : ℕ) → length words ≡ 24 → first < turnover → (events : List Event)
-    → EveryRun base words first (runOf base words first events)
+pub every-run-of-the-pump : (words : List ℕ) (first : ℕ) → length words ≡ 24 → first < turnover → (events : List Handed)
+    → Demands base words (runOf base words first events) × Companions base first (runOf base words first events)
 every-run-of-the-pump words first all small events = every-run base base-within words first all small events

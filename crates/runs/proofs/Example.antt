@@ -5,14 +5,15 @@ use mathlib.Core.List.{List, [], _∷_, map}
 use mathlib.Core.Path.{_≡_, refl}
 use lib.ListN.{replicate, set}
 use Rattle.counters.specs.Sizes.{base}
-use Rattle.rules.specs.Events.{Event}
+use Rattle.record_layout.specs.Declarations.{declarationsOf}
+use Rattle.rules.specs.Events.{Handed}
 use Rattle.runs.specs.Histories.{History, Call, Status, Committed, RolledBack, Transaction}
 use Rattle.runs.specs.LoneRun.{committedCalls, loneAnswers, loneWords}
 use Rattle.runs.specs.Runs.{Run, runOf}
 use Rattle.rules.specs.SessionW.{start, call, read, add, spend, commit, rollback, first, words}
 use Rattle.rules.specs.Walks.{anyBelow, eachBelow, joinBelow}
 
-abbrev events : List Event
+abbrev events : List Handed
 events =
     start 0 (3 ∷ 2 ∷ [])
     ∷ start 1 (3 ∷ 0 ∷ [])
@@ -30,7 +31,7 @@ events =
 
 -- slot, list, calls, status and the first bytes of the record of each transaction
 abbrev ended : ℕ → List ℕ → List Call → Status → List ℕ → Transaction
-ended slot list calls status written = record { slot = slot; list = list; calls = calls; status = status; written = written }
+ended slot list calls status written = record { slot = slot; declarations = declarationsOf list; calls = calls; status = status; written = written }
 
 abbrev called : ℕ → ℕ → ℕ → ℕ → Call
 called object kind argument answer = record { object = object; kind = kind; argument = argument; answer = answer }

@@ -6,7 +6,7 @@ use mathlib.Core.Path.{_≡_, refl, sym, ap, _∙_}
 use native.Mathlib.Omega.{arith}
 use native.Mathlib.Nat.{zero-add}
 use Rattle.runs.specs.Histories.{History, Transaction, isLive, livesIn}
-use Rattle.runs.specs.Statements.{countLive, declarers}
+use Rattle.runs.specs.Companions.{countLive, declarers}
 use Rattle.runs.proofs.Scan.{Standing, declares, wordAfter, replayed, LiveFact, Fact, Scan, scan-splits, scan-joins, replayed-append}
 use Rattle.runs.proofs.Carried.{Keeping, Marked, scan-kept, scan-behind}
 

@@ -8,8 +8,8 @@ use lib.Dec.{eqb}
 use borrow.Author.Tests.{eqb-true, eq-eqb}
 use Rattle.answers.specs.Order.{pick}
 use Rattle.runs.specs.Histories.{History, Transaction, isLive, livesIn, changed}
-use Rattle.runs.specs.Statements.{countLive}
-use Rattle.rules.proofs.Picking.{both-true}
+use Rattle.runs.specs.Companions.{countLive}
+use Rattle.answers.proofs.Tests.{both-true}
 
 pub record Found (s : ℕ) (history : History) : Type 0 where
   pub before : History

@@ -6,11 +6,12 @@ use mathlib.Core.Path.{_≡_}
 use lib.ListN.{getD}
 use Rattle.counters.specs.Sizes.{Size}
 use Rattle.counters.specs.Versions.{turnover}
+use Rattle.record_layout.specs.Declarations.{names}
 use Rattle.objects.specs.Places.{noPair}
 use Rattle.rules.specs.Tables.{State, objectAt, liveAt, pairAt}
-use Rattle.rules.specs.Events.{names}
 use Rattle.runs.specs.Histories.{History, Transaction}
-use Rattle.runs.specs.Statements.{LiveOnce, anyRolledBack, declarers}
+use Rattle.runs.specs.Demands.{anyRolledBack}
+use Rattle.runs.specs.Companions.{LiveOnce, declarers}
 use Rattle.runs.specs.Runs.{Run}
 use Rattle.rules.proofs.Stores.{Sized}
 use Rattle.runs.proofs.Alone.{Inside}
@@ -35,9 +36,9 @@ pub record Object (z : Size) (words : List ℕ) (first : ℕ) (t : State) (histo
 
 -- what an accepted start and the calls accepted since leave in a transaction: its list names an object, and only objects there are
 pub record Proper (z : Size) (x : Transaction) : Type 0 where
-  pub inside : (o : ℕ) → names (x .list) o ≡ true → o < z .objects
+  pub inside : (o : ℕ) → names (x .declarations) o ≡ true → o < z .objects
   pub some : ℕ
-  pub named : names (x .list) some ≡ true
+  pub named : names (x .declarations) some ≡ true
   pub calls : Inside (z .objects) (x .calls)
 
 abbrev pub All : (Transaction → Type 0) → History → Type 0

@@ -18,8 +18,9 @@ use Rattle.objects.specs.declared.Pair.{Pair}
 use Rattle.record_order.specs.CommonObject.{Lists}
 use Rattle.rules.specs.Walks.{joinBelow}
 use Rattle.rules.specs.Effects.{entryOf}
-use Rattle.runs.specs.Statements.{declaredEntry}
-use Rattle.rules.proofs.Picking.{both-true, pick-when}
+use Rattle.runs.specs.Companions.{declaredEntry}
+use Rattle.answers.proofs.Tests.{both-true}
+use Rattle.rules.proofs.Picking.{pick-when}
 
 -- a list with another behind it lists what either lists
 lists-joined : (es fs : List Entry) (o v : ℕ) → Lists (es ++ fs) o v ↔ (Lists es o v ⊎ Lists fs o v)

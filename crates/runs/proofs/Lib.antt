@@ -23,7 +23,7 @@ pub mod ObjectStarted
 pub mod ObjectCalled
 pub mod ObjectEnded
 pub mod EndsRead
-pub mod EntriesHold
+pub mod PairsHold
 pub mod AfterStart
 pub mod AfterCall
 pub mod AfterEnd

@@ -4,9 +4,9 @@ use mathlib.Core.Bool.{Bool, true, false}
 use mathlib.Core.List.{[], _∷_, map}
 use mathlib.Core.Path.{_≡_, refl, ap, _∙_}
 use native.Mathlib.Omega.{arith}
-use Rattle.rules.specs.Events.{names}
+use Rattle.record_layout.specs.Declarations.{names}
 use Rattle.runs.specs.Histories.{History, Transaction, isLive}
-use Rattle.runs.specs.Statements.{declarers, liveDeclarers, numbered}
+use Rattle.runs.specs.Companions.{declarers, liveDeclarers, numbered}
 use Rattle.rules.proofs.Picking.{and-false}
 use Rattle.runs.proofs.Scan.{Standing, declares, wordAfter, LiveFact, Scan}
 
@@ -22,7 +22,7 @@ module _ {A : Type 0} (o first last : ℕ) (v : Standing) (see : Transaction →
   Follow given xs = (from count : ℕ) → from ≡ given + (v .terminal - given) → from + count ≡ last → given + declarers o xs ≡ last
       → map see (liveDeclarers o xs) ≡ numbered count (λ k. at (from + k))
 
-  live-follows : (given word : ℕ) (x : Transaction) (xs : History) → isLive (x .status) ≡ true → names (x .list) o ≡ true
+  live-follows : (given word : ℕ) (x : Transaction) (xs : History) → isLive (x .status) ≡ true → names (x .declarations) o ≡ true
       → LiveFact o first v given word x → Follow (given + declares o x) xs → Follow given (x ∷ xs)
   live-follows given word x xs live named fact rest from zero starts ends all =
       let one : declares o x ≡ 1 = rw named in absurd (omega (arith, fact .ahead))
@@ -42,9 +42,9 @@ module _ {A : Type 0} (o first last : ℕ) (v : Standing) (see : Transaction →
   pub follow : (given word : ℕ) (xs : History) → Scan o first v given word xs → Follow given xs
   follow given word [] scan = λ from count starts ends all. let none : count ≡ 0 = omega arith in rw none
   follow given word (x ∷ xs) scan =
-      by (isLive (x .status)) refl (names (x .list) o) refl (follow (given + declares o x) (wordAfter o v word x) xs (scan .1))
+      by (isLive (x .status)) refl (names (x .declarations) o) refl (follow (given + declares o x) (wordAfter o v word x) xs (scan .1))
     where
-      by : (live : Bool) → isLive (x .status) ≡ live → (named : Bool) → names (x .list) o ≡ named → Follow (given + declares o x) xs
+      by : (live : Bool) → isLive (x .status) ≡ live → (named : Bool) → names (x .declarations) o ≡ named → Follow (given + declares o x) xs
           → Follow given (x ∷ xs)
       by live e false f rest =
           let none : declares o x ≡ 0 = rw f in

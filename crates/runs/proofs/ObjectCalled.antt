@@ -14,7 +14,7 @@ use Rattle.kinds.specs.Kinds.{acted}
 use Rattle.objects.specs.Places.{reaches, calledObject, calledPair, letGo}
 use Rattle.rules.specs.Tables.{State, objectAt, pairAt}
 use Rattle.runs.specs.Histories.{History, Transaction, Call, isLive, livesIn, withCall}
-use Rattle.runs.specs.Statements.{countLive, declarers}
+use Rattle.runs.specs.Companions.{countLive, declarers}
 use Rattle.rules.proofs.Picking.{clash, pick-when}
 use Rattle.runs.proofs.OneObject.{callsOn, replay, calls-append, replay-append, agree-append}
 use Rattle.runs.proofs.Scan.{Standing, declares, wordAfter, replayed, LiveFact, Fact, declarers-append, replayed-append}
@@ -97,7 +97,7 @@ module _ (z : Size) (words : List ℕ) (first : ℕ) (t u : State) (before : His
   module _ (kind argument : ℕ) (unspoiled : pairAt z t (own .slot) q .spoiled ≡ false)
       (same : (r : ℕ) → r ≢ own .slot → pairAt z u r q ≡ pairAt z t r q)
       (pair : pairAt z u (own .slot) q ≡ calledPair (pairAt z t (own .slot) q) (objectAt t q))
-      (object : objectAt u q ≡ calledObject kind argument (pairAt z t (own .slot) q) (objectAt t q)) where
+      (object : objectAt u q ≡ calledObject (acted kind (objectAt t q .word) argument .word) (pairAt z t (own .slot) q) (objectAt t q)) where
     abbrev call : Call
     call = record { object = q; kind = kind; argument = argument; answer = acted kind (objectAt t q .word) argument .answer }
 

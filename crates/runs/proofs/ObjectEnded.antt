@@ -15,20 +15,17 @@ use Rattle.counters.specs.declared.Version.{Version}
 use Rattle.objects.specs.Places.{noPair, turnOf, saysReleased, ended, restores, spoiledPair}
 use Rattle.objects.specs.declared.Pair.{Pair}
 use Rattle.rules.specs.Tables.{State, objectAt, liveAt, pairAt}
-use Rattle.runs.specs.Histories.{History, Transaction, Status, Committed, RolledBack, isLive, isCommitted, livesIn, withEnd}
-use Rattle.runs.specs.Statements.{Within, countLive, declarers}
-use Rattle.rules.proofs.Picking.{clash, and-false, both-true, pick-when}
+use Rattle.runs.specs.Histories.{History, Transaction, Status, Committed, RolledBack, isLive, isCommitted, livesIn, withEnd, statusOf}
+use Rattle.runs.specs.Companions.{countLive, declarers}
+use Rattle.runs.specs.Runs.{Within}
+use Rattle.answers.proofs.Tests.{both-true}
+use Rattle.rules.proofs.Picking.{clash, and-false, pick-when}
 use Rattle.runs.proofs.Scan.{Standing, declares, wordAfter, replayed, LiveFact, Fact, Scan, declarers-append}
 use Rattle.runs.proofs.Carried.{Keeping, Marked, other-slot, live-uncommitted}
 use Rattle.runs.proofs.Exchanged.{exchanged, turned}
 use Rattle.runs.proofs.Unwrapped.{released-is}
 use Rattle.runs.proofs.Invariant.{standing, Object}
 use Rattle.runs.proofs.Acting.{Seen, Acts}
-
--- how the history notes an end
-abbrev pub statusOf : Bool → Status
-statusOf true = RolledBack
-statusOf false = Committed
 
 pub ended-status : (rollback : Bool) → isLive (statusOf rollback) ≡ false
 ended-status true = refl

@@ -10,11 +10,11 @@ use borrow.Author.Tests.{eq-eqb}
 use Rattle.answers.specs.Order.{pick}
 use Rattle.counters.specs.Sizes.{Size}
 use Rattle.counters.specs.Versions.{turnover}
+use Rattle.record_layout.specs.Declarations.{Declaration, names}
 use Rattle.objects.specs.Places.{givenOut, declaredWith}
 use Rattle.rules.specs.Tables.{State, objectAt, pairAt}
-use Rattle.rules.specs.Events.{names}
 use Rattle.runs.specs.Histories.{History, begun}
-use Rattle.runs.specs.Statements.{countLive, declarers}
+use Rattle.runs.specs.Companions.{countLive, declarers}
 use Rattle.rules.proofs.Picking.{clash, pick-same}
 use Rattle.runs.proofs.Scan.{Standing, declares, replayed, Fact, Scan, declarers-append, scan-joins, replayed-append, stands}
 use Rattle.runs.proofs.Carried.{scan-kept}
@@ -24,8 +24,8 @@ use Rattle.rules.proofs.Leaves.{StartLeaves}
 use Rattle.runs.proofs.Invariant.{standing, Object}
 use Rattle.runs.proofs.ObjectCalled.{keeping-all}
 
-module _ (z : Size) (words : List ℕ) (first : ℕ) (t u : State) (history : History) (s : ℕ) (list : List ℕ) (q : ℕ) (below : q < z .objects)
-    (old : Object z words first t history q) (idle : countLive s history ≡ 0) (started : Started z s list t u) (leaves : StartLeaves z s list t u) where
+module _ (z : Size) (words : List ℕ) (first : ℕ) (t u : State) (history : History) (s : ℕ) (declarations : List Declaration) (q : ℕ) (below : q < z .objects)
+    (old : Object z words first t history q) (idle : countLive s history ≡ 0) (started : Started z s declarations t u) (leaves : StartLeaves z s declarations t u) where
   abbrev v : Standing
   v = standing z t q (old .terminal) (old .local)
 
@@ -40,10 +40,10 @@ module _ (z : Size) (words : List ℕ) (first : ℕ) (t u : State) (history : Hi
       scan-kept q first s v n 0 (declarers q history) (keeping-all s v n 0 (declarers q history) (λ r apart. leaves .pairs r q below apart) refl (omega arith))
       0 word history (omega arith) (omega arith) idle (old .scan)
 
-  declared-now : names list q ≡ true → pairAt z u s q ≡ declaredWith (supremumOf list q) (givenOut (objectAt t q) .global)
+  declared-now : names declarations q ≡ true → pairAt z u s q ≡ declaredWith (supremumOf declarations q) (givenOut (objectAt t q) .global)
   declared-now named = started .pair s q below ∙ rw (eq-eqb s s refl, named)
 
-  fact : Fact q first n (declarers q history) (replayed q n word history) (begun s list)
+  fact : Fact q first n (declarers q history) (replayed q n word history) (begun s declarations)
   fact =
       record {
         unlisted = λ unnamed. refl;
@@ -63,28 +63,28 @@ module _ (z : Size) (words : List ℕ) (first : ℕ) (t u : State) (history : Hi
             };
       }
 
-  counted : declarers q (history ++ begun s list ∷ []) ≡ declarers q history + declares q (begun s list)
-  counted = omega (arith, declarers-append q history (begun s list ∷ []))
+  counted : declarers q (history ++ begun s declarations ∷ []) ≡ declarers q history + declares q (begun s declarations)
+  counted = omega (arith, declarers-append q history (begun s declarations ∷ []))
 
-  global-now : objectAt u q .global .0 ≡ (first + declarers q (history ++ begun s list ∷ [])) % turnover
-  global-now = rw (counted, started .object q) (by (names list q) refl)
+  global-now : objectAt u q .global .0 ≡ (first + declarers q (history ++ begun s declarations ∷ [])) % turnover
+  global-now = rw (counted, started .object q) (by (names declarations q) refl)
     where
-      by : (b : Bool) → names list q ≡ b
-          → pick (names list q) (givenOut (objectAt t q)) (objectAt t q) .global .0 ≡ (first + (declarers q history + pick (names list q) 1 0)) % turnover
+      by : (b : Bool) → names declarations q ≡ b
+          → pick (names declarations q) (givenOut (objectAt t q)) (objectAt t q) .global .0 ≡ (first + (declarers q history + pick (names declarations q) 1 0)) % turnover
       by true e = rw (e, old .global-is) (omega arith)
       by false e = rw (e, old .global-is) (omega arith)
 
-  pub object-started : Object z words first u (history ++ begun s list ∷ []) q
+  pub object-started : Object z words first u (history ++ begun s declarations ∷ []) q
   object-started =
       record {
         terminal = old .terminal;
         local = old .local;
-        scan = scan-joins q first n 0 word history (begun s list ∷ []) (kept .0) (rw (zero-add (declarers q history)) (fact, tt));
+        scan = scan-joins q first n 0 word history (begun s declarations ∷ []) (kept .0) (rw (zero-add (declarers q history)) (fact, tt));
         word-is =
             leaves .word q
             ∙ old .word-is
             ∙ sym (kept .1)
-            ∙ sym (replayed-append q first n word history (begun s list ∷ []) ∙ pick-same (stands n (begun s list)) (replayed q n word history));
+            ∙ sym (replayed-append q first n word history (begun s declarations ∷ []) ∙ pick-same (stands n (begun s declarations)) (replayed q n word history));
         global-is = global-now;
         local-is = rw (leaves .local q) (old .local-is);
         terminal-is = rw (leaves .terminal q) (old .terminal-is);

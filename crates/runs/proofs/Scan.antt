@@ -8,11 +8,11 @@ use native.Mathlib.Omega.{arith}
 use native.Mathlib.Nat.{add-zero, add-assoc}
 use Rattle.answers.specs.Order.{pick}
 use Rattle.counters.specs.Versions.{turnover}
+use Rattle.record_layout.specs.Declarations.{names}
 use Rattle.objects.specs.Places.{noPair}
 use Rattle.objects.specs.declared.Pair.{Pair}
-use Rattle.rules.specs.Events.{names}
 use Rattle.runs.specs.Histories.{History, Transaction, isLive, isCommitted, livesIn}
-use Rattle.runs.specs.Statements.{countLive, declarers}
+use Rattle.runs.specs.Companions.{countLive, declarers}
 use Rattle.runs.proofs.OneObject.{callsOn, replay, Agree}
 
 -- an object's pair of each slot, and how many of its versions have ended and have been let go, counted from the first without wrapping
@@ -23,7 +23,7 @@ pub record Standing : Type 0 where
 
 -- 1 where a transaction declares the object
 abbrev pub declares : ℕ → Transaction → ℕ
-declares o x = pick (names (x .list) o) 1 0
+declares o x = pick (names (x .declarations) o) 1 0
 
 -- a transaction whose calls stand in the object's word: committed, or live and not spoiled
 abbrev pub stands : Standing → Transaction → Bool
@@ -49,11 +49,11 @@ pub record LiveFact (o first : ℕ) (v : Standing) (given word : ℕ) (x : Trans
 
 -- any transaction
 pub record Fact (o first : ℕ) (v : Standing) (given word : ℕ) (x : Transaction) : Type 0 where
-  pub unlisted : names (x .list) o ≡ false → callsOn o (x .calls) ≡ []
-  pub past : isLive (x .status) ≡ false → names (x .list) o ≡ true → given < v .terminal
+  pub unlisted : names (x .declarations) o ≡ false → callsOn o (x .calls) ≡ []
+  pub past : isLive (x .status) ≡ false → names (x .declarations) o ≡ true → given < v .terminal
   pub agrees : isCommitted (x .status) ≡ true → Agree (callsOn o (x .calls)) word
-  pub none : isLive (x .status) ≡ true → names (x .list) o ≡ false → v .pair (x .slot) ≡ noPair
-  pub live : isLive (x .status) ≡ true → names (x .list) o ≡ true → LiveFact o first v given word x
+  pub none : isLive (x .status) ≡ true → names (x .declarations) o ≡ false → v .pair (x .slot) ≡ noPair
+  pub live : isLive (x .status) ≡ true → names (x .declarations) o ≡ true → LiveFact o first v given word x
 
 abbrev pub Scan : ℕ → ℕ → Standing → ℕ → ℕ → History → Type 0
 Scan o first v given word [] = Unit {0}

@@ -13,7 +13,7 @@ use Rattle.objects.specs.Places.{noPair}
 use Rattle.objects.specs.declared.Pair.{Pair}
 use Rattle.rules.specs.Tables.{State, objectAt, liveAt, pairAt}
 use Rattle.runs.specs.Histories.{History, Transaction}
-use Rattle.runs.specs.Statements.{declarers}
+use Rattle.runs.specs.Companions.{declarers}
 use Rattle.runs.specs.Runs.{Run}
 use Rattle.rules.proofs.Picking.{clash}
 use Rattle.rules.proofs.Stores.{Sized}

@@ -15,12 +15,12 @@ use Rattle.objects.specs.Places.{saysReleased}
 pub next-is : (first given : ℕ) → next ((first + given) % turnover) ≡ (first + suc given) % turnover
 next-is first given = omega arith
 
--- 'd = 1': as many have been let go as were given out before
+-- R8, the turn: as many have been let go as were given out before
 pub turn-is : (first given local : ℕ) → given ≤ local + 256 → local ≤ given + 256
     → difference ((first + suc given) % turnover) ((first + local) % turnover) ≡ 1 → local ≡ given
 turn-is first given local below above turn = omega arith
 
--- 'terminal + 1 = private': as many have ended as were given out before
+-- R9, the terminal need: as many have ended as were given out before
 pub need-is : (first given terminal : ℕ) → terminal ≤ given → given ≤ terminal + 256
     → next ((first + terminal) % turnover) ≡ (first + suc given) % turnover → given ≡ terminal
 need-is first given terminal below above need = omega arith
@@ -42,7 +42,7 @@ turn-moved by private local = go (eqb private (local + 1)) refl (leb private loc
         passed true f = rw (f, le-leb (by + private) (by + local) (omega (arith, leb-true private local f)))
         passed false f = rw (f, lt-leb (by + private) (by + local) (omega (arith, leb-false private local f)))
 
--- 'Released' says that this version has been let go
+-- released says that this version has been let go
 released-by : (private local : ℕ) → saysReleased (unwrappedTurn private local) ≡ leb private local
 released-by private local = by (leb private local) refl
   where

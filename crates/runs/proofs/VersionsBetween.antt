@@ -15,8 +15,8 @@ use Rattle.objects.specs.Places.{turnOf}
 use Rattle.rules.specs.Tables.{State, objectAt, liveAt, pairAt}
 use Rattle.rules.specs.Steps.{releaseStep}
 use Rattle.runs.specs.Histories.{Transaction}
-use Rattle.runs.specs.Statements.{Within, Between, declarers, toldOf}
-use Rattle.runs.specs.Runs.{Run}
+use Rattle.runs.specs.Companions.{Between, declarers, toldOf}
+use Rattle.runs.specs.Runs.{Within, Run}
 use Rattle.runs.proofs.Scan.{Standing, LiveFact}
 use Rattle.runs.proofs.Invariant.{Object, Invariant, standing}
 use Rattle.runs.proofs.Unwrapped.{turn-moved}

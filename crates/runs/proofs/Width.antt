@@ -9,10 +9,10 @@ use lib.Dec.{eqb, ltb}
 use borrow.Author.Tests.{eqb-true, eqb-false, eq-eqb, ltb-true, ltb-false, lt-ltb, le-ltb}
 use Rattle.answers.specs.Order.{pick}
 use Rattle.counters.specs.Sizes.{Size}
+use Rattle.record_layout.specs.Declarations.{names}
 use Rattle.rules.specs.Tables.{liveAt}
-use Rattle.rules.specs.Events.{names}
 use Rattle.runs.specs.Histories.{History, isLive, livesIn}
-use Rattle.runs.specs.Statements.{LiveOnce, countLive, declarers}
+use Rattle.runs.specs.Companions.{LiveOnce, countLive, declarers}
 use Rattle.runs.specs.Runs.{Run}
 use Rattle.rules.proofs.Picking.{and-false}
 use Rattle.runs.proofs.Scan.{Standing, declares, wordAfter, Scan}
@@ -92,13 +92,13 @@ declared-bound o first v bound given word (x ∷ xs) over under scan =
     omega (
       arith,
       declared-bound o first v (bound + counted) (given + declares o x) (wordAfter o v word x) xs (omega arith)
-          (step (isLive (x .status)) refl (names (x .list) o) refl) (scan .1),
+          (step (isLive (x .status)) refl (names (x .declarations) o) refl) (scan .1),
     )
   where
     counted : ℕ
     counted = pick (isLive (x .status)) 1 0
 
-    step : (live : Bool) → isLive (x .status) ≡ live → (named : Bool) → names (x .list) o ≡ named → given + declares o x ≤ bound + counted
+    step : (live : Bool) → isLive (x .status) ≡ live → (named : Bool) → names (x .declarations) o ≡ named → given + declares o x ≤ bound + counted
     step true e true f = rw (e, f) (omega arith)
     step live e false f = rw f (omega arith)
     step false e true f = rw (e, f) (omega (arith, scan .0 .past e f))

@@ -6,9 +6,12 @@ use lib.ListN.{take}
 use lib.Dec.{eqb}
 use Rattle.answers.specs.Numbers.{Reply}
 use Rattle.answers.specs.Order.{pick}
+use Rattle.record_layout.specs.Declarations.{Declaration, declarationsOf}
+use Rattle.record_layout.specs.declared.fields.Event.{Event}
+use Rattle.record_layout.specs.declared.fields.Event
 use Rattle.record_layout.specs.declared.fields.Fields.{Fields}
 use Rattle.record_layout.specs.declared.fields.Fields
-use Rattle.rules.specs.Events.{Event}
+use Rattle.rules.specs.Events.{Handed}
 
 pub data Status : Type 0 where
   Live : Status
@@ -40,7 +43,7 @@ pub record Call : Type 0 where
 -- an accepted start, the calls accepted since, and how it stands; where it has ended, the record that its end wrote
 pub record Transaction : Type 0 where
   pub slot : ℕ
-  pub list : List ℕ
+  pub declarations : List Declaration
   pub calls : List Call
   pub status : Status
   pub written : List ℕ
@@ -49,16 +52,15 @@ abbrev pub History : Type 0
 History = List Transaction
 
 -- a start
-abbrev pub begun : ℕ → List ℕ → Transaction
-begun slot list = record { slot = slot; list = list; calls = []; status = Live; written = [] }
+abbrev pub begun : ℕ → List Declaration → Transaction
+begun slot declarations = record { slot = slot; declarations = declarations; calls = []; status = Live; written = [] }
 
--- one call more
 abbrev pub withCall : Call → Transaction → Transaction
-withCall call x = record { slot = x .slot; list = x .list; calls = x .calls ++ call ∷ []; status = x .status; written = x .written }
+withCall call x =
+    record { slot = x .slot; declarations = x .declarations; calls = x .calls ++ call ∷ []; status = x .status; written = x .written }
 
--- an end
 abbrev pub withEnd : Status → List ℕ → Transaction → Transaction
-withEnd status written x = record { slot = x .slot; list = x .list; calls = x .calls; status = status; written = written }
+withEnd status written x = record { slot = x .slot; declarations = x .declarations; calls = x .calls; status = status; written = written }
 
 -- whether this is the live transaction of a slot
 abbrev pub livesIn : ℕ → Transaction → Bool
@@ -68,20 +70,26 @@ livesIn slot x = isLive (x .status) && eqb (x .slot) slot
 abbrev pub changed : ℕ → (Transaction → Transaction) → History → History
 changed slot change history = map (λ x. pick (livesIn slot x) (change x) x) history
 
--- what an accepted event adds, by its fields and its list, the value of its reply, and its buffer afterwards: a start is appended, a call
--- and an end change the live transaction of their slot
-abbrev pub extended : Fields → List ℕ → ℕ → List ℕ → History → History
-extended (Fields.Fresh first) list value buffer history = history
-extended (Fields.Start slot) list value buffer history = history ++ begun (slot .0) list ∷ []
-extended (Fields.Call slot object kind argument) list value buffer history =
-    changed (slot .0) (withCall (record { object = object .0; kind = kind; argument = argument; answer = value })) history
-extended (Fields.Release slot object) list value buffer history = history
-extended (Fields.Commit slot tick) list value buffer history = changed (slot .0) (withEnd Committed (take value buffer)) history
-extended (Fields.Rollback slot tick) list value buffer history = changed (slot .0) (withEnd RolledBack (take value buffer)) history
-extended (Fields.Committed tick slot) list value buffer history = history
-extended (Fields.RolledBack tick slot) list value buffer history = history
+-- how an end leaves its transaction
+abbrev pub statusOf : Bool → Status
+statusOf rollback = pick rollback RolledBack Committed
 
--- a refused event leaves the history as it is
-abbrev pub noted : Event → Reply → List ℕ → History → History
-noted event reply buffer history =
-    pick (eqb (reply .number) 0) (extended (event .fields) (event .list) (reply .value) buffer history) history
+-- what an accepted event adds, by its list, the value of its reply, and its buffer afterwards: a start is appended, a call and an end
+-- change the live transaction of their slot
+abbrev pub extended : Event → List ℕ → ℕ → List ℕ → History → History
+extended (Event.Start slot) list value buffer history = history ++ begun (slot .0) (declarationsOf list) ∷ []
+extended (Event.Call slot object kind argument) list value buffer history =
+    changed (slot .0) (withCall (record { object = object .0; kind = kind; argument = argument; answer = value })) history
+extended (Event.Release slot object) list value buffer history = history
+extended (Event.End slot tick rollback) list value buffer history = changed (slot .0) (withEnd (statusOf rollback) (take value buffer)) history
+
+-- R18: other fields carry no event
+abbrev pub extendedBy : Fields → List ℕ → ℕ → List ℕ → History → History
+extendedBy (Fields.Fresh first) list value buffer history = history
+extendedBy (Fields.Event event) list value buffer history = extended event list value buffer history
+extendedBy (Fields.Ended tick slot rollback) list value buffer history = history
+
+-- a refusal leaves the history as it is
+abbrev pub noted : Handed → Reply → List ℕ → History → History
+noted handed reply buffer history =
+    pick (eqb (reply .number) 0) (extendedBy (handed .fields) (handed .list) (reply .value) buffer history) history

@@ -1,4 +1,5 @@
 pub mod Histories
 pub mod Runs
 pub mod LoneRun
-pub mod Statements
+pub mod Demands
+pub mod Companions

@@ -8,7 +8,7 @@ use Rattle.kinds.specs.Kinds.{acted}
 use Rattle.kinds.specs.declared.Acted.{Acted}
 use Rattle.runs.specs.Histories.{History, Call, isCommitted}
 
--- 'the committed transactions .. in start order, with the calls they had accepted'
+-- the accepted calls of the committed transactions, in start order
 abbrev pub committedCalls : History → List Call
 committedCalls [] = []
 committedCalls (x ∷ xs) = pick (isCommitted (x .status)) (x .calls) [] ++ committedCalls xs

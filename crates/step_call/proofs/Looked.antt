@@ -8,11 +8,10 @@ use Rattle.answers.specs.Numbers.{accepted}
 use Rattle.answers.specs.Order.{Rule, decide, _when_}
 use Rattle.answers.specs.declared.Refusal.{Refusal}
 use Rattle.answers.specs.declared.Refusal.the-variants.{NotDeclared, BadCall, Doomed}
-use Rattle.leaf_call.specs.Calls.{calledWith}
 use Rattle.counters.specs.Sizes.{Size}
 use Rattle.kinds.specs.Kinds.{acted}
 use Rattle.kinds.specs.declared.Acted.{Acted}
-use Rattle.objects.specs.Places.{calledPair, letGo}
+use Rattle.objects.specs.Places.{calledObject, calledPair, letGo}
 use Rattle.objects.specs.declared.Object.{Object}
 use Rattle.objects.specs.declared.Pair.{Pair}
 use Rattle.rules.specs.Tables.{State, objectAt, liveAt, pairAt, withObject, withPair}
@@ -61,7 +60,7 @@ module _ {z : Size} {t : State} {slot number s o : ℕ} {live : Bool} {pair : Pa
         ∷ turnRules z (pairAt z t r q) (objectAt t q)
 
     called : ℕ → ℕ → Stepping
-    called r q = record { tables = callEffect z r q kind argument t; reply = accepted (acted kind (objectAt t q .word) argument .answer) }
+    called r q = record { tables = callEffect z r q (acted kind (objectAt t q .word) argument .word) t; reply = accepted (acted kind (objectAt t q .word) argument .answer) }
 
     pub call-refused : (refusal : Refusal) → decide (callRules z slot number kind live is-doomed pair object) Refuses Passes ≡ Refuses refusal
         → unchanged t refusal ≡ callStep z t slot number kind argument
@@ -72,16 +71,16 @@ module _ {z : Size} {t : State} {slot number s o : ℕ} {live : Bool} {pair : Pa
 
     pub call-passed : decide (callRules z slot number kind live is-doomed pair object) Refuses Passes ≡ Passes
         → (act : Acted) (next : Object) (next-pair : Pair) → act ≡ acted kind (object .word) argument
-        → next ≡ calledWith (act .word) pair object → next-pair ≡ calledPair pair object
+        → next ≡ calledObject (act .word) pair object → next-pair ≡ calledPair pair object
         → record { tables = withPair z (withObject t o next) s o next-pair; reply = accepted (act .answer) } ≡ callStep z t slot number kind argument
     unfolding calling called
     call-passed e act next next-pair acts is-next is-next-pair =
         (λ i. record { tables = withPair z (withObject t o (is-next i)) s o (is-next-pair i); reply = accepted (act .answer) })
-        ∙ (λ i. record { tables = withPair z (withObject t o (calledWith (acts i .word) pair object)) s o (calledPair pair object); reply = accepted (acts i .answer) })
+        ∙ (λ i. record { tables = withPair z (withObject t o (calledObject (acts i .word) pair object)) s o (calledPair pair object); reply = accepted (acts i .answer) })
         ∙ (λ i.
         record {
           tables =
-              withPair z (withObject t o (calledWith (acted kind (looked .is-object i .word) argument .word) (looked .is-pair i) (looked .is-object i))) s o
+              withPair z (withObject t o (calledObject (acted kind (looked .is-object i .word) argument .word) (looked .is-pair i) (looked .is-object i))) s o
               (calledPair (looked .is-pair i) (looked .is-object i));
           reply = accepted (acted kind (looked .is-object i .word) argument .answer);
         })

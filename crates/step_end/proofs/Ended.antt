@@ -104,14 +104,14 @@ module _ {z : Size} {t : State} {slot s : ℕ} {buffer : List ℕ} {live : Bool}
 
   module _ (e : decide (endRules z rollback slot live (standing .doomed) (standing .unmet) short) Refuses Passes ≡ Passes) where
     pub has-room : 10 + standing .bytes ≤ length buffer
-    has-room = ltb-false (length buffer) (10 + standing .bytes) (sym (looked .is-short) ∙ passing z rollback slot _ _ _ _ e .1)
+    has-room = ltb-false (length buffer) (10 + standing .bytes) (sym (looked .is-short) ∙ passing z rollback slot live (standing .doomed) (standing .unmet) short e .1)
 
     pub end-passed : (t₂ : State) (written : List ℕ) → t₂ ≡ eachBelow (z .objects) (λ o u. endCleared z rollback s o u) t
         → written ≡ recordOf (endFields rollback tick slot) (endEntries z s t) ++ drop (10 + standing .bytes) buffer
         → record { tables = withLive t₂ s false; reply = accepted (10 + standing .bytes); buffer = written } ≡ endStep z rollback t slot tick buffer
     unfolding rulesAt made
     end-passed t₂ written settled is-written =
-        let same : s ≡ slot = looked .right-slot (passing z rollback slot _ _ _ _ e .0) in
+        let same : s ≡ slot = looked .right-slot (passing z rollback slot live (standing .doomed) (standing .unmet) short e .0) in
         let long : 10 + standing .bytes ≡ length (endRecord z rollback slot tick t) =
         (λ i. 10 + looked .is-standing i .bytes) ∙ (λ i. 10 + length (endEntries z (same i) t)) ∙ sym (end-length rollback tick slot (endEntries z slot t)) in
         let tables : withLive t₂ s false ≡ endEffect z rollback slot t =

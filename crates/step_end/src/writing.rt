@@ -10,6 +10,7 @@ ghost use Rattle.tables.specs.Views.{view};
 use counters::Size;
 use counters::SlotNo;
 use objects::Pair;
+use record_layout::fields::Fields;
 
 // The front, and the entries of the slot's declared objects behind it.
 pub fn record(
@@ -28,7 +29,14 @@ pub fn record(
     requires { ⌜ (list ≡ length (endEntries size s (view size (now words) (now bytes) (now marks)))) × (list ≤ 510) × (10 + list ≤ length (now buf)) ⌝ }
     ensures { λ _. ⌜ now (buf .exit) ≡ recordOf (endFields rollback tick (slot .0)) (endEntries size s (view size (now (words .entry)) (now (bytes .entry)) (now (marks .entry)))) ++ drop (10 + list) (now (buf .entry)) ⌝ }
 {
-    let front = record_front::front(leaf_end::fields(rollback, tick, slot), list);
+    let front = record_front::front(
+        Fields::Ended {
+            tick,
+            slot,
+            rollback,
+        },
+        list,
+    );
     bytes::copy(&front[..10], buf);
     entries(words, bytes, marks, size, s, &mut buf[10..]);
 }

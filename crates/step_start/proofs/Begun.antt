@@ -8,11 +8,11 @@ use native.Mathlib.Omega.{arith}
 use borrow.Author.Tests.{eq-eqb, ne-eqb}
 use lib.ListN.{length, getD, replicate, List·getD-map, getD-replicate, length-replicate, length-map}
 use lib.Seq.{ext-getD, getD-set-same, getD-set-other}
-use Rattle.step_start.specs.Beginnings.{beginObject, beginSlot}
+use Rattle.step_start.specs.Serving.Beginnings.{beginObject, beginSlot}
 use Rattle.counters.specs.Sizes.{Size}
 use Rattle.objects.specs.Places.{noPair}
 use Rattle.rules.proofs.Cleared.{clear-objects, clear-live, clear-sized, clear-pairs}
-use Rattle.rules.proofs.Stores.{Sized, live-elsewhere, live-there, sized-object, sized-live}
+use Rattle.rules.proofs.Stores.{Sized, tables-alike, live-elsewhere, live-there, sized-object, sized-live}
 use Rattle.rules.proofs.Walking.{Keeps, each-keeps, each-leaves, each-sees}
 use Rattle.rules.specs.Effects.{clearSlot}
 use Rattle.rules.specs.Tables.{State, liveAt, pairAt, freshObject, freshTables}
@@ -92,9 +92,5 @@ begun z first given t t₁ t₂ sized all objects slots =
     let fits : Sized z u = objects-sized z t sized first given all in
     slots
     ∙ ap (eachBelow (z .slots) (beginSlot z)) objects
-    ∙ (λ i.
-    record {
-      objects = (objects-left z u fits ∙ objects-fresh z t sized first given all) i;
-      live = none-live z u fits i;
-      pairs = pairs-none z u fits i;
-    })
+    ∙ tables-alike (slotsBegun z u fits) (freshTables z given first)
+    (objects-left z u fits ∙ objects-fresh z t sized first given all) (none-live z u fits) (pairs-none z u fits)

@@ -2,12 +2,13 @@
 ghost use Prim.Native.Nat.{_<_};
 ghost use mathlib.Core.Path.{_≡_};
 ghost use lib.ListN.{length};
-ghost use Rattle.step_start.specs.Beginnings.{beginObject, beginSlot};
+ghost use Rattle.step_start.specs.Serving.Beginnings.{beginObject, beginSlot};
+ghost use Rattle.record_layout.specs.Declarations.{declarationsOf};
 ghost use Rattle.rules.specs.Effects.{clearSlot, declareOne, declareAll};
 ghost use Rattle.rules.specs.Steps.{startStep};
 ghost use Rattle.rules.specs.Tables.{freshTables};
 ghost use Rattle.rules.specs.Walks.{eachBelow};
-ghost use Rattle.leaf_start.specs.Listed.{ListedBelow};
+ghost use Rattle.leaf_start.specs.Serving.Listed.{ListedBelow};
 ghost use Rattle.tables.specs.Places.{wordsLong, Fits};
 ghost use Rattle.tables.specs.Views.{view};
 ghost use Rattle.tables.specs.Serving.Changes.{Become, WordsBecome, Steps};
@@ -43,7 +44,7 @@ pub fn start(
     }
 }
 
-// All entries of the slot zero.
+// All pairs of the slot zero.
 fn clear(words: &mut [u32], bytes: &mut [u8], marks: &mut [bool], size: Size, s: u32)
     requires { ⌜ Fits size (now words) (now bytes) (now marks) × (s < size .slots) ⌝ }
     ensures { λ _. ⌜ Become size (now (words .entry)) (now (bytes .entry)) (now (marks .entry)) (now (words .exit)) (now (bytes .exit)) (now (marks .exit)) (clearSlot size s) ⌝ }
@@ -55,7 +56,7 @@ fn clear(words: &mut [u32], bytes: &mut [u8], marks: &mut [bool], size: Size, s:
     }
 }
 
-// For each listed object the global version rises by one and becomes the private version.
+// R12: each declaration takes the next version of its object.
 fn declare_all(
     words: &mut [u32],
     bytes: &mut [u8],
@@ -64,8 +65,8 @@ fn declare_all(
     s: u32,
     list: &[u8],
 )
-    requires { ⌜ Fits size (now words) (now bytes) (now marks) × (s < size .slots) × ListedBelow (size .objects) (now list) ⌝ }
-    ensures { λ _. ⌜ Become size (now (words .entry)) (now (bytes .entry)) (now (marks .entry)) (now (words .exit)) (now (bytes .exit)) (now (marks .exit)) (declareAll size s (now (list .entry))) ⌝ }
+    requires { ⌜ Fits size (now words) (now bytes) (now marks) × (s < size .slots) × ListedBelow (size .objects) (declarationsOf (now list)) ⌝ }
+    ensures { λ _. ⌜ Become size (now (words .entry)) (now (bytes .entry)) (now (marks .entry)) (now (words .exit)) (now (bytes .exit)) (now (marks .exit)) (declareAll size s (declarationsOf (now (list .entry)))) ⌝ }
 {
     let mut next: usize = 0;
     while 1 < list.len() - next {
@@ -108,8 +109,7 @@ fn declare(
     );
 }
 
-// Given a word for each object and a first version, all three versions of every object are that version and no slot
-// is live.
+// R7: the tables of a word for each object and a first version.
 pub fn fresh(
     words: &mut [u32],
     bytes: &mut [u8],
@@ -142,7 +142,7 @@ fn begin_objects(words: &mut [u32], size: Size, first: Version, given: &[u32])
     }
 }
 
-// No slot live, and all entries zero.
+// No slot live, and all pairs zero.
 fn begin_slots(words: &mut [u32], bytes: &mut [u8], marks: &mut [bool], size: Size)
     requires { ⌜ Fits size (now words) (now bytes) (now marks) ⌝ }
     ensures { λ _. ⌜ Become size (now (words .entry)) (now (bytes .entry)) (now (marks .entry)) (now (words .exit)) (now (bytes .exit)) (now (marks .exit)) (eachBelow (size .slots) (beginSlot size)) ⌝ }

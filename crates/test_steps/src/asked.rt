@@ -5,6 +5,7 @@ use counters::SlotNo;
 use counters::Version;
 use machine::Stepped;
 use machine::Tables;
+use record_layout::fields::Event;
 use record_layout::fields::Fields;
 use test_tables::changes::changes;
 use test_text::scan::after;
@@ -18,7 +19,7 @@ use test_text::show;
 // Stands for the number of a kind where the bytes of a record are given.
 pub const RECORD: u32 = 0;
 
-// An event by the number of its kind and its fields in the order of the paper's table, or by the bytes of its record. Of
+// An event by the number of its kind and its fields in the order in which they stand, or by the bytes of its record. Of
 // the numbers given, a start's list stands behind its slot, and a record's bytes behind the room, which is at most 136.
 pub fn event(kind: u32, given: &[u8], room: u32, tables: Tables) -> Tables {
     let numbers = numbers_of(given);
@@ -49,13 +50,12 @@ fn stepped(kind: u32, given: &[u8], list: &[u8], tables: Tables, lent: &mut [u8]
 fn fields(kind: u32, given: &[u8]) -> Fields {
     let slot = SlotNo(byte_at(given, 0));
     let object = ObjectNo(byte_at(given, 1));
-    let number = number_at(given, 1);
     match kind {
-        0x0101 => Fields::Start { slot },
+        0x0101 => Fields::Event(Event::Start { slot }),
         0x0102 => call(slot, object, given),
-        0x0103 => Fields::Release { slot, object },
-        0x0104 => Fields::Commit { slot, tick: number },
-        0x0105 => Fields::Rollback { slot, tick: number },
+        0x0103 => Fields::Event(Event::Release { slot, object }),
+        0x0104 => end(slot, given, false),
+        0x0105 => end(slot, given, true),
         _ => no_event(kind, given),
     }
 }
@@ -63,12 +63,21 @@ fn fields(kind: u32, given: &[u8]) -> Fields {
 fn call(slot: SlotNo, object: ObjectNo, given: &[u8]) -> Fields {
     let kind = byte_at(given, 2);
     let argument = number_at(given, 3);
-    Fields::Call {
+    Fields::Event(Event::Call {
         slot,
         object,
         kind,
         argument,
-    }
+    })
+}
+
+fn end(slot: SlotNo, given: &[u8], rollback: bool) -> Fields {
+    let tick = number_at(given, 1);
+    Fields::Event(Event::End {
+        slot,
+        tick,
+        rollback,
+    })
 }
 
 // A fresh or an end record, which is no event.
@@ -76,8 +85,16 @@ fn no_event(kind: u32, given: &[u8]) -> Fields {
     let number = number_at(given, 0);
     let slot = SlotNo(byte_at(given, 1));
     match kind {
-        0x0201 => Fields::Committed { tick: number, slot },
-        0x0202 => Fields::RolledBack { tick: number, slot },
+        0x0201 => Fields::Ended {
+            tick: number,
+            slot,
+            rollback: false,
+        },
+        0x0202 => Fields::Ended {
+            tick: number,
+            slot,
+            rollback: true,
+        },
         _ => Fields::Fresh {
             first: Version(number),
         },

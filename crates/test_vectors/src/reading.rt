@@ -1,4 +1,5 @@
 // What the reader gives: the frame, the fields or the refusal, and the parts handed back.
+use record_layout::fields::Event;
 use record_layout::fields::Fields;
 use record_layout::fields::Framing;
 use record_layout::fields::Reading;
@@ -19,48 +20,63 @@ pub fn read(s: &[u8]) {
 
 fn frame(framing: Framing) {
     match framing {
-        Framing::Whole(found) => kind(found),
+        Framing::Whole { length: _, number } => kind(number),
         Framing::Refused(refusal) => number(refusal.number()),
     }
 }
 
 fn reading(reading: Reading) {
     match reading {
-        Reading::Fields(read) => fields(read),
+        Reading::Record {
+            fields,
+            list: _,
+            taken: _,
+        } => told(fields),
         Reading::Refused(refusal) => number(refusal.number()),
     }
 }
 
-// The kind, and its fields in the order of the paper's table.
-pub fn fields(read: Fields) {
-    match read {
-        Fields::Fresh { first } => one(0x0100, first.0),
-        Fields::Start { slot } => one(0x0101, slot.0 as u32),
-        Fields::Call {
+// The kind, and its fields in the order in which they stand.
+pub fn told(fields: Fields) {
+    kind(fields.shape().number);
+    match fields {
+        Fields::Fresh { first } => one(first.0),
+        Fields::Event(event) => told_event(event),
+        Fields::Ended {
+            tick,
+            slot,
+            rollback: _,
+        } => two(tick, slot.0 as u32),
+    }
+}
+
+fn told_event(event: Event) {
+    match event {
+        Event::Start { slot } => one(slot.0 as u32),
+        Event::Call {
             slot,
             object,
             kind,
             argument,
         } => four(slot.0, object.0, kind, argument),
-        Fields::Release { slot, object } => two(0x0103, slot.0 as u32, object.0 as u32),
-        Fields::Commit { slot, tick } => two(0x0104, slot.0 as u32, tick),
-        Fields::Rollback { slot, tick } => two(0x0105, slot.0 as u32, tick),
-        Fields::Committed { tick, slot } => two(0x0201, tick, slot.0 as u32),
-        Fields::RolledBack { tick, slot } => two(0x0202, tick, slot.0 as u32),
+        Event::Release { slot, object } => two(slot.0 as u32, object.0 as u32),
+        Event::End {
+            slot,
+            tick,
+            rollback: _,
+        } => two(slot.0 as u32, tick),
     }
 }
 
-fn one(number: u16, field: u32) {
-    kind(number);
+fn one(field: u32) {
     sentence(b" _", &[field]);
 }
 
-fn two(number: u16, first: u32, second: u32) {
-    one(number, first);
-    sentence(b" _", &[second]);
+fn two(first: u32, second: u32) {
+    sentence(b" _ _", &[first, second]);
 }
 
 fn four(slot: u8, object: u8, call: u8, argument: u32) {
-    two(0x0102, slot as u32, object as u32);
-    sentence(b" _ _", &[call as u32, argument]);
+    two(slot as u32, object as u32);
+    two(call as u32, argument);
 }

@@ -28,7 +28,7 @@ returns-6 c =
     let list = c .before in
     let slot-and-live = list .before .before .before .before in
     simp (lt-leb _ _ (slot-and-live .before .if1 .left), slot-and-live .if2 .left, ne-eqb _ _ (list .before .before .before .if3 .left), ne-eqb _ _ (list .before .before .if4 .left), le-ltb _ _ (list .if5 .left))
-    (c .pairs .ensures)
+    (c .declarations .ensures)
 
 pub verdict-spec : {M : Type 1} → statement M
 verdict-spec =

@@ -1,9 +1,15 @@
 -- `record_body::end_right` meets its promise.
-use mathlib.Core.Path.{_∙_}
-use borrow.Author.Tests.{lt-ltb, le-ltb}
-use native.Mathlib.Omega.{arith}
-use Prim.Native.Nat.{_<_, _≤_}
 use borrow.Author.Needs.{needs}
+use Prim.Native.Nat.{ℕ, _-_, _<_, _≤_}
+use mathlib.Core.List.{List}
+use mathlib.Core.Path.{ap, _∙_}
+use native.Mathlib.Nat.{le-refl}
+use lib.ListN.{length, drop, length-drop}
+use lib.Seq.{take-all}
+use Rattle.counters.specs.Sizes.{base}
+use Rattle.record_layout.specs.Entries.{entriesOf, risingFrom}
+use native.Mathlib.Omega.{arith}
+use borrow.Author.Tests.{lt-ltb, le-ltb}
 use Rattle.record_body.proofs.end_right.Statement.{statement}
 use Rattle.record_body.proofs.end_right.Tie as tie
 
@@ -19,8 +25,10 @@ returns-3 : tie.Need-returns-3
 returns-3 c =
     let at-if = c .before .before in
     let h : 0 < at-if .before .byte2 .result = omega arith in
+    let b = at-if .before .before .before .before .before .args .b .now in
+    let all = take-all (length b - 6) (drop 6 b) (simp length-drop (le-refl (length b - 6))) in
     rw (← at-if .before .before .before .byte .ensures, ← at-if .before .byte2 .ensures)
-    (simp (lt-ltb _ _ (at-if .before .before .if1 .left), lt-ltb _ _ h) (c .rise .ensures ∙ rw (c .before .behind .ensures .bytes)))
+    (simp (lt-ltb _ _ (at-if .before .before .if1 .left), lt-ltb _ _ h) (c .rise .ensures ∙ ap (λ (l : List ℕ). risingFrom (base .objects) 0 (entriesOf l)) all))
 
 pub end-right-spec : {M : Type 1} → statement M
 end-right-spec =
@@ -30,6 +38,8 @@ end-right-spec =
     returns
     (λ c κs. search needs)
     returns-2
-    (λ c κs. search needs)
+    (λ c. search needs)
+    (λ c. search needs)
+    (λ c. search needs)
     (λ c κs. search needs)
     returns-3)

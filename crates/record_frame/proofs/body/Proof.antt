@@ -1,40 +1,37 @@
 -- `record_frame::body` meets its promise.
-use mathlib.Core.Path.{sym, ap, _∙_}
-use Prim.Native.Nat.{ℕ}
-use lib.ListN.{take, drop}
-use native.Mathlib.Nat.{add-sub-cancel-left, zero-add}
-use Rattle.counters.specs.Sizes.{base}
-use Rattle.record_frame.proofs.Frames.{whole, not-whole}
 use borrow.Author.Needs.{needs}
+use Prim.Native.Nat.{ℕ}
+use mathlib.Core.Path.{sym, ap, _∙_}
+use native.Mathlib.Nat.{add-sub-cancel-left, zero-add}
+use lib.ListN.{take, drop}
+use Rattle.counters.specs.Sizes.{base}
+use Rattle.record_frame.proofs.Frames.{IsWhole, whole, not-whole}
 use Rattle.record_frame.proofs.body.Statement.{statement}
 use Rattle.record_frame.proofs.body.Tie as tie
 
 returns : tie.Need-returns
 returns c =
     let framed = c .before .before .before in
-    let s = framed .before .before .args .s in
-    let told = c .before .enum-told2 .given in
-    let refused = not-whole base (s .now) (told .0 .0) (sym (framed .frame .ensures) ∙ told .1) in
+    let told = c .before .enum-told .given in
+    let refused = not-whole base (framed .before .before .args .s .now) (told .0 .0) (sym (framed .frame .ensures) ∙ told .1) in
     record { bytes = sym (refused .body-is); place-is = rw (refused .place-is, zero-add) }
 
+-- what the frame tells, seen from where its parts are bound
+is-whole : (c : tie.After-length) → IsWhole base (c .before .before .before .before .args .s .now) (c .length .given .0 .0) (c .length .given .0 .1 .0)
+is-whole c =
+    let framed = c .before .before in
+    whole base (framed .before .before .args .s .now) (c .length .given .0 .0) (c .length .given .0 .1 .0) (sym (framed .frame .ensures) ∙ c .length .given .1)
+
 part-result-end : tie.Need-part-result-end
-part-result-end c =
-    let framed = c .before .before .before in
-    let told = c .before .enum-told .given in
-    let is-whole = whole base (framed .before .before .args .s .now) (told .0 .0) (sym (framed .frame .ensures) ∙ told .1) in
-    rw (c .half .ensures) (is-whole .is-there)
+part-result-end c = is-whole (c .before) .is-there
 
 returns-2 : tie.Need-returns-2
 returns-2 c =
-    let framed = c .before .before .before .before in
-    let s = framed .before .before .args .s in
-    let told = c .before .before .enum-told .given in
-    let is-whole = whole base (s .now) (told .0 .0) (sym (framed .frame .ensures) ∙ told .1) in
+    let told = c .before .before in
+    let s = told .before .before .before .before .args .s in
     record {
-      bytes =
-          ap (λ (n : ℕ). take n (drop 4 (s .now))) (add-sub-cancel-left 4 (c .before .half .result) ∙ c .before .half .ensures)
-          ∙ sym (is-whole .body-is);
-      place-is = rw (is-whole .place-is);
+      bytes = ap (λ (n : ℕ). take n (drop 4 (s .now))) (add-sub-cancel-left 4 (told .length .given .0 .0)) ∙ sym (is-whole told .body-is);
+      place-is = rw (is-whole told .place-is);
     }
 
 pub body-spec : {M : Type 1} → statement M
@@ -46,7 +43,6 @@ body-spec =
     (λ c. search needs)
     (λ c. search needs)
     returns
-    (λ c κs. search needs)
     (λ c. search needs)
     (λ c. search needs)
     (λ c. search needs)

@@ -1,10 +1,6 @@
 -- `record_frame::frame` meets its promise.
-use mathlib.Core.Path.{ap, _∙_}
-use borrow.Author.Tests.{lt-ltb, le-ltb}
-use Rattle.record_layout.specs.Bytes.{halfOf}
-use Rattle.record_layout.specs.declared.fields.Framing.{Framing}
-use Rattle.record_layout.specs.declared.fields.Framing
 use borrow.Author.Needs.{needs}
+use borrow.Author.Tests.{lt-ltb, le-ltb}
 use Rattle.record_frame.proofs.frame.Statement.{statement}
 use Rattle.record_frame.proofs.frame.Tie as tie
 
@@ -21,10 +17,9 @@ returns-3 c =
 
 returns-4 : tie.Need-returns-4
 returns-4 c =
-    let measured = c .before .before .before .before in
-    rw (← measured .half .ensures)
-    (simp (le-ltb _ _ (measured .before .if1 .left), le-ltb _ _ (c .before .before .before .if2 .left), le-ltb _ _ (c .before .before .if3 .left))
-    (ap Framing.Whole (c .half2 .ensures ∙ ap halfOf (c .before .behind .ensures .bytes))))
+    let measured = c .before .before .before in
+    rw (← measured .half .ensures, ← c .half2 .ensures)
+    (simp (le-ltb _ _ (measured .before .if1 .left), le-ltb _ _ (c .before .before .if2 .left), le-ltb _ _ (c .before .if3 .left)))
 
 pub frame-spec : {M : Type 1} → statement M
 frame-spec =
@@ -35,7 +30,7 @@ frame-spec =
     (λ c. search needs)
     returns-2
     (λ c. search needs)
+    (λ c. search needs)
     returns-3
-    (λ c κs. search needs)
     (λ c κs. search needs)
     returns-4)

@@ -1,56 +1,28 @@
 -- `record_front::front` meets its promise.
-use Rattle.record_front.proofs.Fronted.{fronted}
 use borrow.Author.Needs.{needs}
+use Prim.Native.Nat.{ℕ}
+use mathlib.Core.List.{List, _++_}
+use mathlib.Core.Path.{_≡_}
+use Rattle.record_layout.specs.Fields.{headOf, frontOf}
+use Rattle.record_layout.specs.declared.fields.Fields.{Fields}
+use Rattle.record_front.specs.Filled.{inOrder, filled}
+use Rattle.record_front.proofs.Fronted.{fronted}
 use Rattle.record_front.proofs.front.Statement.{statement}
 use Rattle.record_front.proofs.front.Tie as tie
 
+-- a frame and the head of the fields that are told, behind it
+made : (c : tie.After-frame) {f : Fields} (r : List ℕ) → c .before .args .fields ≡ f
+    → r ≡ filled 12 (inOrder (c .frame .result) ++ headOf f (c .before .args .bytes)) → r ≡ filled 12 (frontOf (c .before .args .fields) (c .before .args .bytes))
+made c {f} r told headed = fronted (c .before .args .fields) f (c .before .args .bytes) (c .frame .result) r told (c .frame .ensures) headed
+
 returns : tie.Need-returns
-returns c =
-    let told = c .before .before in
-    let framed = told .before .before in
-    fronted (framed .before .args .fields) _ (framed .before .args .bytes) (framed .frame .result) (c .fresh .result) (told .fields .given .1) (framed .frame .ensures) (c .fresh .ensures)
+returns c = made (c .before .before .before .before) (c .fresh .result) (c .before .before .fields .given .1) (c .fresh .ensures)
 
 returns-2 : tie.Need-returns-2
-returns-2 c =
-    let told = c .before .before in
-    let framed = told .before .before in
-    fronted (framed .before .args .fields) _ (framed .before .args .bytes) (framed .frame .result) (c .two .result) (told .fields2 .given .1) (framed .frame .ensures) (c .two .ensures)
+returns-2 c = made (c .before .before .before .before) (c .event .result) (c .before .before .fields2 .given .1) (c .event .ensures)
 
 returns-3 : tie.Need-returns-3
-returns-3 c =
-    let told = c .before .before in
-    let framed = told .before .before in
-    fronted (framed .before .args .fields) _ (framed .before .args .bytes) (framed .frame .result) (c .call .result) (told .fields3 .given .1) (framed .frame .ensures) (c .call .ensures)
-
-returns-4 : tie.Need-returns-4
-returns-4 c =
-    let told = c .before .before in
-    let framed = told .before .before in
-    fronted (framed .before .args .fields) _ (framed .before .args .bytes) (framed .frame .result) (c .two2 .result) (told .fields4 .given .1) (framed .frame .ensures) (c .two2 .ensures)
-
-returns-5 : tie.Need-returns-5
-returns-5 c =
-    let told = c .before .before in
-    let framed = told .before .before in
-    fronted (framed .before .args .fields) _ (framed .before .args .bytes) (framed .frame .result) (c .end .result) (told .fields5 .given .1) (framed .frame .ensures) (c .end .ensures)
-
-returns-6 : tie.Need-returns-6
-returns-6 c =
-    let told = c .before .before in
-    let framed = told .before .before in
-    fronted (framed .before .args .fields) _ (framed .before .args .bytes) (framed .frame .result) (c .end2 .result) (told .fields6 .given .1) (framed .frame .ensures) (c .end2 .ensures)
-
-returns-7 : tie.Need-returns-7
-returns-7 c =
-    let told = c .before .before in
-    let framed = told .before .before in
-    fronted (framed .before .args .fields) _ (framed .before .args .bytes) (framed .frame .result) (c .ended .result) (told .fields7 .given .1) (framed .frame .ensures) (c .ended .ensures)
-
-returns-8 : tie.Need-returns-8
-returns-8 c =
-    let told = c .before .before in
-    let framed = told .before .before in
-    fronted (framed .before .args .fields) _ (framed .before .args .bytes) (framed .frame .result) (c .ended2 .result) (told .fields8 .given .1) (framed .frame .ensures) (c .ended2 .ensures)
+returns-3 c = made (c .before .before .before .before) (c .ended .result) (c .before .before .fields3 .given .1) (c .ended .ensures)
 
 pub front-spec : {M : Type 1} → statement M
 front-spec =
@@ -60,27 +32,10 @@ front-spec =
     (λ c. search needs)
     (λ c κs. search needs)
     (λ c. search needs)
-    (λ c. search needs)
-    (λ c κs. search needs)
-    (λ c. search needs)
-    (λ c κs. search needs)
-    (λ c. search needs)
-    (λ c κs. search needs)
-    (λ c. search needs)
-    (λ c κs. search needs)
-    (λ c. search needs)
-    (λ c κs. search needs)
-    (λ c. search needs)
-    (λ c. search needs)
     (λ c κs. search needs)
     (λ c. search needs)
     (λ c. search needs)
     (λ c κs. search needs)
     returns
     returns-2
-    returns-3
-    returns-4
-    returns-5
-    returns-6
-    returns-7
-    returns-8)
+    returns-3)

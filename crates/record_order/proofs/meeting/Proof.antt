@@ -56,7 +56,7 @@ returns-2 c =
     let walk = turn .before .before .before in
     let lists = walk .before .before .before .args in
     let hits = inner-hits (lists .a .now) (lists .b .now) (walk .outer .at-a) (turn .before .loop .at-b) (turn .loop-test .taken) (hit .if1 .taken) in
-    rw (c .compare .ensures, c .before .word-at2 .ensures, c .before .before .word-at .ensures) (sym (turn .before .loop .inv .2 ∙ hits))
+    rw (c .compare .ensures, c .before .word2 .ensures, c .before .before .word .ensures) (sym (turn .before .loop .inv .2 ∙ hits))
 
 pub meeting-spec : {M : Type 1} → statement M
 meeting-spec =

@@ -14,20 +14,20 @@ use Rattle.record_write.proofs.place.Statement.{statement}
 use Rattle.record_write.proofs.place.Tie as tie
 
 -- the bytes that were counted are those of the body
-counted : (c : tie.After-shape-of)
-    → c .shape-of .result .head + length (c .before .before .before .args .list .now)
+counted : (c : tie.After-shape)
+    → c .shape .result .head + length (c .before .before .before .args .list .now)
     ≡ length (bodyOf (c .before .before .before .args .fields) (c .before .before .before .args .list .now))
 counted c =
     let start = c .before .before .before .args in
-    omega (arith, length-body (start .fields) (start .list .now), ap (λ (x : Shape). x .head) (c .shape-of .ensures))
+    omega (arith, length-body (start .fields) (start .list .now), ap (λ (x : Shape). x .head) (c .shape .ensures))
 
 -- and with the frame those of the record
-all-counted : (c : tie.After-shape-of)
-    → 4 + (c .shape-of .result .head + length (c .before .before .before .args .list .now))
+all-counted : (c : tie.After-shape)
+    → 4 + (c .shape .result .head + length (c .before .before .before .args .list .now))
     ≡ length (recordOf (c .before .before .before .args .fields) (c .before .before .before .args .list .now))
 all-counted c =
     let start = c .before .before .before .args in
-    omega (arith, length-record (start .fields) (start .list .now), ap (λ (x : Shape). x .head) (c .shape-of .ensures))
+    omega (arith, length-record (start .fields) (start .list .now), ap (λ (x : Shape). x .head) (c .shape .ensures))
 
 returns : tie.Need-returns
 returns c =

@@ -16,16 +16,16 @@ use Rattle.record_write.proofs.put.Statement.{statement}
 use Rattle.record_write.proofs.put.Tie as tie
 
 -- where the list begins
-place : (c : tie.After-shape-of) → 4 + c .shape-of .result .head ≡ 4 + shapeOf (kindOfFields (c .before .before .before .before .args .fields)) .head
-place c = ap (λ (x : Shape). 4 + x .head) (c .shape-of .ensures)
+place : (c : tie.After-shape) → 4 + c .shape .result .head ≡ 4 + shapeOf (kindOfFields (c .before .before .before .before .args .fields)) .head
+place c = ap (λ (x : Shape). 4 + x .head) (c .shape .ensures)
 
-fits : (c : tie.After-shape-of) → 4 + c .shape-of .result .head ≤ length (c .before .front .result)
+fits : (c : tie.After-shape) → 4 + c .shape .result .head ≤ length (c .before .front .result)
 fits c =
     let room : length (c .before .front .result) ≡ 12 = search needs in
     omega (arith, room, place c, small-front (c .before .before .before .before .args .fields))
 
-front-length : (c : tie.After-shape-of) → length (take (4 + c .shape-of .result .head) (c .before .front .result)) ≡ 4 + c .shape-of .result .head
-front-length c = length-take-le (4 + c .shape-of .result .head) (c .before .front .result) (fits c)
+front-length : (c : tie.After-shape) → length (take (4 + c .shape .result .head) (c .before .front .result)) ≡ 4 + c .shape .result .head
+front-length c = length-take-le (4 + c .shape .result .head) (c .before .front .result) (fits c)
 
 copy-requires : tie.Need-copy-requires
 copy-requires c κs =
@@ -35,7 +35,7 @@ copy-requires c κs =
 
 -- behind the front there is room for the list
 room : (c : tie.After-copy)
-    → (4 + c .before .before .before .before .shape-of .result .head) + length (c .before .before .before .before .before .before .before .before .args .list .now)
+    → (4 + c .before .before .before .before .shape .result .head) + length (c .before .before .before .before .before .before .before .before .args .list .now)
     ≤ length (c .copy .last .1 .0)
 room c =
     let shape = c .before .before .before .before in
@@ -43,14 +43,14 @@ room c =
     let kept : length (c .copy .last .1 .0) ≡ length (start .args .buf .now) = c .copy .kept .1 .0 in
     omega (arith, kept, start .pre .1, place shape, length-record (start .args .fields) (start .args .list .now))
 
-there : (c : tie.After-copy) → 4 + c .before .before .before .before .shape-of .result .head ≤ length (c .copy .last .1 .0)
+there : (c : tie.After-copy) → 4 + c .before .before .before .before .shape .result .head ≤ length (c .copy .last .1 .0)
 there c = omega (arith, room c)
 
 copy-requires-2 : tie.Need-copy-requires-2
 copy-requires-2 c κs =
     let first = c .before .before .before in
     let shape = first .before .before .before .before in
-    part-room (first .copy .last .1 .0) (4 + shape .shape-of .result .head) (length (shape .before .before .before .before .args .list .now)) (room first)
+    part-room (first .copy .last .1 .0) (4 + shape .shape .result .head) (length (shape .before .before .before .before .args .list .now)) (room first)
 
 returns : tie.Need-returns
 returns c =
@@ -58,7 +58,7 @@ returns c =
     let first = second .before .before .before .before in
     let shape = first .before .before .before .before in
     let start = shape .before .before .before .before in
-    let at = 4 + shape .shape-of .result .head in
+    let at = 4 + shape .shape .result .head in
     let begun = first .copy .last .1 .0 in
     front-and-list (start .args .fields) (start .args .list .now) (shape .before .front .result) (start .args .buf .now) begun _ at
     (place shape) (shape .before .front .ensures) (first .copy .ensures .1)

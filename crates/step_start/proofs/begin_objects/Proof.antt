@@ -6,7 +6,7 @@ use Rattle.rules.proofs.Walking.{each-zero, each-next}
 use Rattle.rules.specs.Walks.{eachBelow}
 use Rattle.tables.specs.Views.{view}
 use Rattle.tables.specs.Serving.Changes.{WordsBecome}
-use Rattle.step_start.specs.Beginnings.{beginObject}
+use Rattle.step_start.specs.Serving.Beginnings.{beginObject}
 use borrow.Author.Needs.{needs}
 use Rattle.step_start.proofs.begin_objects.Statement.{statement}
 use Rattle.step_start.proofs.begin_objects.Tie as tie

@@ -3,7 +3,7 @@ use Prim.Native.Nat.{_-_}
 use mathlib.Core.Bool.{false}
 use Rattle.rules.specs.Tables.{withLive}
 use Rattle.tables.specs.Views.{view}
-use Rattle.step_start.specs.Beginnings.{beginSlot}
+use Rattle.step_start.specs.Serving.Beginnings.{beginSlot}
 use Rattle.tables.proofs.Walk.{Walk, walk-first, walk-on, walk-done}
 use borrow.Author.Needs.{needs}
 use Rattle.step_start.proofs.begin_slots.Statement.{statement}

@@ -25,10 +25,10 @@ loop-again c =
     let list = c .before .before .before .before .args .list .now in
     let inside : turn .o < 24 = search needs in (
       search needs,
-      length-set (turn .words) (turn .o) (c .word-at .result) ∙ turn .inv .1,
+      length-set (turn .words) (turn .o) (c .word .result) ∙ turn .inv .1,
       turn .inv .2
           ∙ words-next 24 (turn .o) (turn .words) list inside (turn .inv .1)
-          ∙ ap (λ (word : ℕ). take (turn .o + 1) (set (turn .words) (turn .o) word) ++ wordsOf (24 - (turn .o + 1)) (drop (4 * (turn .o + 1)) list)) (sym (c .word-at .ensures)),
+          ∙ ap (λ (word : ℕ). take (turn .o + 1) (set (turn .words) (turn .o) word) ++ wordsOf (24 - (turn .o + 1)) (drop (4 * (turn .o + 1)) list)) (sym (c .word .ensures)),
     )
 
 returns : tie.Need-returns Inv-loop μ-loop

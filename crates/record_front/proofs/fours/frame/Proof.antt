@@ -4,7 +4,7 @@ use Rattle.record_front.proofs.fours.frame.Statement.{statement}
 use Rattle.record_front.proofs.fours.frame.Tie as tie
 
 returns : tie.Need-returns
-returns c = rw (c .before .shape-of .ensures)
+returns c = rw (c .before .shape .ensures)
 
 pub frame-spec : {M : Type 1} → statement M
 frame-spec =

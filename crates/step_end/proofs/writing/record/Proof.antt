@@ -19,7 +19,7 @@ use Rattle.step_end.proofs.writing.record.Statement.{statement}
 use Rattle.step_end.proofs.writing.record.Tie as tie
 
 abbrev begin : tie.After-front → tie.Start
-begin c = c .before .before .before .before .before .before
+begin c = c .before .before .before .before .before
 
 abbrev entries : tie.After-front → List ℕ
 entries c =
@@ -64,7 +64,7 @@ returns c =
     let begun = copied .copy .last .1 .0 in
     let long : length (recordOf f list) ≡ 10 + a .list = end-length (a .rollback) (a .tick) (a .slot .0) list ∙ ap (λ (n : ℕ). 10 + n) (sym (start .pre .1 .0)) in
     let fronted : front .front .result ≡ filled 12 (frontOf f (length list)) =
-    front .front .ensures ∙ (λ i. filled 12 (frontOf (front .before .fields .ensures i) (start .pre .1 .0 i))) in
+    front .front .ensures ∙ ap (λ (n : ℕ). filled 12 (frontOf f n)) (start .pre .1 .0) in
     front-and-list f list (front .front .result) (a .buf .now) begun _ 10 (end-front (a .rollback) (a .tick) (a .slot .0)) fronted (copied .copy .ensures .1)
     (ap (λ (filled-part : List ℕ). take 10 begun ++ (filled-part ++ drop (length begun - 10) (drop 10 begun)))
     (entered .entries .ensures ∙ ap (λ (x : List ℕ). x ++ drop (length list) (take (length begun - 10) (drop 10 begun))) (sym (take-length list)))
@@ -76,7 +76,6 @@ pub record-spec : {M : Type 1} → statement M
 record-spec =
     tie.close
     (tie.spec
-    (λ c κs. search needs)
     (λ c κs. search needs)
     (λ c. search needs)
     slice-aggregate-copy

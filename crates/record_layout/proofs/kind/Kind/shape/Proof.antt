@@ -18,16 +18,10 @@ returns-4 : tie.Need-returns-4
 returns-4 c = ap shapeOf (sym (c .enum-told4 .given .1))
 
 returns-5 : tie.Need-returns-5
-returns-5 c = ap shapeOf (sym (c .enum-told5 .given .1))
+returns-5 c = rw (c .before .before .self .given .1, c .chosen .ensures)
 
 returns-6 : tie.Need-returns-6
-returns-6 c = ap shapeOf (sym (c .enum-told6 .given .1))
-
-returns-7 : tie.Need-returns-7
-returns-7 c = ap shapeOf (sym (c .enum-told7 .given .1))
-
-returns-8 : tie.Need-returns-8
-returns-8 c = ap shapeOf (sym (c .enum-told8 .given .1))
+returns-6 c = rw (c .before .before .self2 .given .1, c .chosen2 .ensures)
 
 pub shape-spec : {M : Type 1} → statement M
 shape-spec =
@@ -38,14 +32,12 @@ shape-spec =
     (λ c. search needs)
     (λ c. search needs)
     (λ c. search needs)
+    (λ c κs. search needs)
     (λ c. search needs)
-    (λ c. search needs)
-    (λ c. search needs)
+    (λ c κs. search needs)
     returns
     returns-2
     returns-3
     returns-4
     returns-5
-    returns-6
-    returns-7
-    returns-8)
+    returns-6)

@@ -1,2 +1,0 @@
-pub mod SharedRules
-pub mod Calls
