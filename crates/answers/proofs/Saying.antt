@@ -4,7 +4,7 @@ use mathlib.Core.List.{List}
 use mathlib.Core.Logic.{_⊎_, inl, inr}
 use mathlib.Core.Path.{_≡_, ap, _∙_}
 use native.Mathlib.Omega.{arith}
-use Rattle.answers.proofs.Deciding.{Passes as NoneHolds, Accepts, Refuses as RefusesBy, decided, passed}
+use Rattle.answers.proofs.Deciding.{NoneHolds, Accepts, OneHolds, decided, passed}
 use Rattle.answers.specs.Order.{Rule, decide}
 use Rattle.answers.specs.declared.Refusal.{Refusal}
 use Rattle.answers.specs.declared.Verdict.the-variants.{Passes, Refuses}
@@ -13,7 +13,7 @@ module _ (rules : List Rule) where
   pub none-holds : decide rules Refuses Passes ≡ Passes → NoneHolds rules
   none-holds e = go (decided rules)
     where
-      go : Accepts rules ⊎ RefusesBy rules → NoneHolds rules
+      go : Accepts rules ⊎ OneHolds rules → NoneHolds rules
       go (inl a) = a .passes
       go (inr r) =
           let clash : _≡_ {A = ℕ} 0 1 = cc (r .gives Refuses Passes) in
@@ -26,7 +26,7 @@ module _ (rules : List Rule) where
       → {A : Type 0} (refused : Refusal → A) (accepted : A) → decide rules refused accepted ≡ refused refusal
   when-refuses refusal e {A} refused accepted = go (decided rules)
     where
-      go : Accepts rules ⊎ RefusesBy rules → decide rules refused accepted ≡ refused refusal
+      go : Accepts rules ⊎ OneHolds rules → decide rules refused accepted ≡ refused refusal
       go (inl a) =
           let clash : _≡_ {A = ℕ} 0 1 = cc (a .gives Refuses Passes) in
           absurd (omega arith)

@@ -8,7 +8,7 @@ use lib.Dec.{ltb}
 use lib.ListN.{length, take, drop, length-append, length-drop, List·getD-append}
 use lib.Seq.{take-append-le, drop-append-le}
 use borrow.Author.Tests.{lt-ltb, le-ltb, ltb-false}
-use Rattle.answers.proofs.Deciding.{Passes, passed}
+use Rattle.answers.proofs.Deciding.{NoneHolds, passed}
 use Rattle.answers.specs.Order.{decide}
 use Rattle.answers.specs.declared.Refusal.{Refusal}
 use Rattle.answers.specs.declared.Refusal.the-variants.{BadRecord}
@@ -26,7 +26,7 @@ half-same : (piece rest : List ℕ) → 2 ≤ length piece → halfOf (piece ++ 
 half-same piece rest h = rw (List·getD-append piece rest 0 0 (omega arith), List·getD-append piece rest 0 1 (omega arith))
 
 -- the frame of a record that is long enough, or too long
-passes : (z : Size) (s : List ℕ) → 4 + bodyLimit z ≤ length s → lengthField s ≤ bodyLimit z → Passes (frameRules z s)
+passes : (z : Size) (s : List ℕ) → 4 + bodyLimit z ≤ length s → lengthField s ≤ bodyLimit z → NoneHolds (frameRules z s)
 passes z s enough short =
     (le-ltb (length s) 4 (omega arith), (le-ltb (bodyLimit z) (lengthField s) short, (le-ltb (length s) (4 + lengthField s) (omega arith), tt)))
 

@@ -1,4 +1,4 @@
--- 'The bench program' whole: from the bytes of its input to the bytes of its output.
+-- R39: the bench program whole, from the bytes of its input to the bytes of its output.
 use Prim.Native.Nat.{ℕ, zero, suc, _+_}
 use mathlib.Core.List.{List, [], _++_}
 use lib.ListN.{length, drop}

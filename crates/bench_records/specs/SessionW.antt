@@ -20,7 +20,7 @@ recordsOf (event ∷ rest) = recordOf (event .fields) (event .list) ++ recordsOf
 abbrev pub input : List ℕ
 input = recordOf (Fields.Fresh (record { 0 = first })) (wordsBytes words) ++ recordsOf events
 
--- 'Events, then the whole output', a line in each row
+-- R44: a line in each row
 abbrev pub output : List ℕ
 output =
     49 ∷ 32 ∷ 48 ∷ 32 ∷ 48 ∷ 10

@@ -11,7 +11,7 @@ use Rattle.rules.specs.Steps.{Outcome}
 use Rattle.rules.specs.Events.{Handed, outcomeOf}
 use Rattle.runs.specs.Histories.{History, noted}
 use Rattle.runs.specs.Runs.{Run}
-use Rattle.machine.specs.Views.{view, ended}
+use Rattle.machine.specs.Views.{view, toldWith}
 use Rattle.machine.specs.declared.Tables.{Tables}
 use Rattle.machine.specs.declared.Stepped.{Stepped}
 use Rattle.events.specs.Promises.{FreshGives, StepGives, RecordGives}
@@ -35,7 +35,7 @@ lastTables t (given ∷ rest) = lastTables (given .stepped .tables) rest
 
 -- the tables, the reply and the buffer of each step, as the rules see them
 abbrev pub outcomesGiven : List Given → List Outcome
-outcomesGiven given = map (λ one. ended (one .stepped) (one .buffer)) given
+outcomesGiven given = map (λ one. toldWith (one .stepped) (one .buffer)) given
 
 -- the outcomes of the rules' steps, one after the other
 abbrev pub outcomesFrom : Size → State → List Handed → List Outcome

@@ -5,7 +5,7 @@ use mathlib.Core.Path.{_≡_}
 use Rattle.counters.specs.Sizes.{base}
 use Rattle.record_layout.specs.declared.fields.Fields.{Fields}
 use Rattle.record_layout.specs.declared.fields.Reading.{Reading}
-use Rattle.machine.specs.Views.{view, ended}
+use Rattle.machine.specs.Views.{view, toldWith}
 use Rattle.machine.specs.declared.Tables.{Tables}
 use Rattle.machine.specs.declared.Stepped.{Stepped}
 use Rattle.rules.specs.Tables.{freshTables}
@@ -17,12 +17,12 @@ FreshGives first words t = view t ≡ freshTables base words first
 
 -- what `step` promises of what it returns and of the buffer afterwards
 abbrev pub StepGives : Tables → Fields → List ℕ → List ℕ → Stepped → List ℕ → Type 0
-StepGives t fields list buffer r afterwards = ended r afterwards ≡ fieldsStep base (view t) fields list buffer
+StepGives t fields list buffer r afterwards = toldWith r afterwards ≡ fieldsStep base (view t) fields list buffer
 
 -- the same of `step_read`
 abbrev pub ReadGives : Tables → Reading → List ℕ → List ℕ → Stepped → List ℕ → Type 0
-ReadGives t read list buffer r afterwards = ended r afterwards ≡ readStep base (view t) read list buffer
+ReadGives t read list buffer r afterwards = toldWith r afterwards ≡ readStep base (view t) read list buffer
 
 -- the same of `step_record`
 abbrev pub RecordGives : Tables → List ℕ → List ℕ → Stepped → List ℕ → Type 0
-RecordGives t bytes buffer r afterwards = ended r afterwards ≡ recordStep base (view t) bytes buffer
+RecordGives t bytes buffer r afterwards = toldWith r afterwards ≡ recordStep base (view t) bytes buffer

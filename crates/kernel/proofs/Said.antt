@@ -3,11 +3,13 @@ use Prim.Native.Nat.{ℕ}
 use mathlib.Core.List.{List}
 use mathlib.Core.Logic.{_⊎_, inl, inr}
 use mathlib.Core.Path.{_≡_, sym, ap, _∙_}
-use Rattle.answers.proofs.Deciding.{Accepts, Refuses, decided}
+use lib.ListN.{length}
+use Rattle.answers.proofs.Deciding.{Accepts, OneHolds, decided}
 use Rattle.answers.specs.Numbers.{Reply, replyOf, accepted}
 use Rattle.answers.specs.Order.{Rule, decide}
 use Rattle.answers.specs.declared.Answer.{Answer}
 use Rattle.counters.specs.Sizes.{base}
+use Rattle.record_layout.specs.Declarations.{declarationsOf}
 use Rattle.rules.specs.Tables.{State, liveAt, pairAt, objectAt}
 use Rattle.rules.specs.Refusing.{startRules, releaseRules}
 use Rattle.rules.specs.Effects.{startEffect, releaseEffect}
@@ -35,12 +37,12 @@ module _ (t : State) (answer : Answer) (number : ℕ) (says : number ≡ replyOf
 no-value : (rules : List Rule) (t u : State) → decide rules (unchanged t) (record { tables = u; reply = accepted 0 }) .reply .value ≡ 0
 no-value rules t u = go (decided rules)
   where
-    go : Accepts rules ⊎ Refuses rules → decide rules (unchanged t) (record { tables = u; reply = accepted 0 }) .reply .value ≡ 0
+    go : Accepts rules ⊎ OneHolds rules → decide rules (unchanged t) (record { tables = u; reply = accepted 0 }) .reply .value ≡ 0
     go (inl a) = ap (λ (s : Stepping). s .reply .value) (a .gives (unchanged t) (record { tables = u; reply = accepted 0 }))
     go (inr r) = ap (λ (s : Stepping). s .reply .value) (r .gives (unchanged t) (record { tables = u; reply = accepted 0 }))
 
 pub start-value : (t : State) (s : ℕ) (list : List ℕ) → startStep base t s list .reply .value ≡ 0
-start-value t s list = no-value (startRules base s (liveAt t s) list) t (startEffect base s list t)
+start-value t s list = no-value (startRules base s (liveAt t s) (length list) (declarationsOf list)) t (startEffect base s (declarationsOf list) t)
 
 pub release-value : (t : State) (s o : ℕ) → releaseStep base t s o .reply .value ≡ 0
 release-value t s o = no-value (releaseRules base s o (liveAt t s) (pairAt base t s o) (objectAt t o)) t (releaseEffect base s o t)

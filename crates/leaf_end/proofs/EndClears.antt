@@ -8,7 +8,7 @@ use lib.Dec.{eqb}
 use lib.Seq.{set-comm}
 use Rattle.answers.specs.Order.{pick}
 use Rattle.counters.specs.Sizes.{Size}
-use Rattle.objects.specs.Places.{noPair, ended, restores, restored, spoiledPair}
+use Rattle.objects.specs.Places.{noPair, settled, restores, restored, spoiledPair}
 use Rattle.objects.specs.declared.Pair.{Pair}
 use Rattle.leaf_end.specs.Serving.Ends.{endCleared}
 use Rattle.rules.proofs.Cleared.{clearedTo}
@@ -50,8 +50,8 @@ module _ (z : Size) (s k o : ℕ) (below : k < z .objects) (inside : o < z .obje
 
   end-beside : (t : State) → endOne z s o (withPair z t s k noPair) ≡ withPair z (endOne z s o t) s k noPair
   end-beside t =
-      (λ i. pick (read-beside s t i .declared) (withPair z (withObject t o (ended (z .slots) (read-beside s t i) (objectAt t o))) s k noPair) (withPair z t s k noPair))
-      ∙ sym (pick-seen (λ u. withPair z u s k noPair) (pairAt z t s o .declared) (withObject t o (ended (z .slots) (pairAt z t s o) (objectAt t o))) t)
+      (λ i. pick (read-beside s t i .declared) (withPair z (withObject t o (settled (z .slots) (read-beside s t i) (objectAt t o))) s k noPair) (withPair z t s k noPair))
+      ∙ sym (pick-seen (λ u. withPair z u s k noPair) (pairAt z t s o .declared) (withObject t o (settled (z .slots) (pairAt z t s o) (objectAt t o))) t)
 
   turn-beside : (rollback : Bool) (t : State) → endTurn z rollback s o (withPair z t s k noPair) ≡ withPair z (endTurn z rollback s o t) s k noPair
   turn-beside false t = end-beside t

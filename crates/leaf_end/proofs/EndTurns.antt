@@ -8,7 +8,7 @@ use borrow.Author.Tests.{eq-eqb}
 use Rattle.answers.proofs.Tests.{both-true}
 use Rattle.answers.specs.Order.{pick}
 use Rattle.counters.specs.Sizes.{Size}
-use Rattle.objects.specs.Places.{noPair, ended, restores, restored}
+use Rattle.objects.specs.Places.{noPair, settled, restores, restored}
 use Rattle.objects.specs.declared.Object.{Object}
 use Rattle.objects.specs.declared.Pair.{Pair}
 use Rattle.rules.specs.Tables.{State, objectAt, pairAt, withObject, withPair}
@@ -21,29 +21,29 @@ use Rattle.leaf_end.specs.Serving.Ends.{endedObject, slotsAsked}
 use Rattle.leaf_end.proofs.Spoils.{spoils-beside}
 
 end-at : (z : Size) (s o : ℕ) (v : State) (pair : Pair) (object : Object) → pairAt z v s o ≡ pair → objectAt v o ≡ object → pair .declared ≡ true
-    → endOne z s o v ≡ withObject v o (ended (z .slots) pair object)
+    → endOne z s o v ≡ withObject v o (settled (z .slots) pair object)
 end-at z s o v pair object own there declared =
-    (λ i. pick (own i .declared) (withObject v o (ended (z .slots) (own i) (there i))) v)
-    ∙ ap (λ (d : Bool). pick d (withObject v o (ended (z .slots) pair object)) v) declared
+    (λ i. pick (own i .declared) (withObject v o (settled (z .slots) (own i) (there i))) v)
+    ∙ ap (λ (d : Bool). pick d (withObject v o (settled (z .slots) pair object)) v) declared
 
 module _ (z : Size) (s o : ℕ) (u : State) (sized : Sized z u) (inside : o < z .objects) where
   -- an object that no rollback restores
-  plain : withObject u o (pick (pairAt z u s o .declared) (ended (z .slots) (pairAt z u s o) (objectAt u o)) (objectAt u o)) ≡ endOne z s o u
+  plain : withObject u o (pick (pairAt z u s o .declared) (settled (z .slots) (pairAt z u s o) (objectAt u o)) (objectAt u o)) ≡ endOne z s o u
   plain = go (pairAt z u s o .declared) refl
     where
       go : (d : Bool) → pairAt z u s o .declared ≡ d
-          → withObject u o (pick (pairAt z u s o .declared) (ended (z .slots) (pairAt z u s o) (objectAt u o)) (objectAt u o)) ≡ endOne z s o u
+          → withObject u o (pick (pairAt z u s o .declared) (settled (z .slots) (pairAt z u s o) (objectAt u o)) (objectAt u o)) ≡ endOne z s o u
       go true e = rw e
       go false e = rw e (object-kept u o)
 
   -- one that it does
   back : restores (pairAt z u s o) ≡ true
-      → eachBelow (z .slots) (λ r w. spoilOne z s o r w) (withObject u o (ended (z .slots) (pairAt z u s o) (restored (pairAt z u s o) (objectAt u o))))
+      → eachBelow (z .slots) (λ r w. spoilOne z s o r w) (withObject u o (settled (z .slots) (pairAt z u s o) (restored (pairAt z u s o) (objectAt u o))))
       ≡ endOne z s o (restoreOne z s o u)
   back e =
       let pair : Pair = pairAt z u s o in
       let word : Object = restored pair (objectAt u o) in
-      let object : Object = ended (z .slots) pair word in
+      let object : Object = settled (z .slots) pair word in
       let v : State = spoilOthers z s o (withObject u o word) in
       let is-v : restoreOne z s o u ≡ v = rw e in
       let declared : pair .declared ≡ true = both-true (pair .declared) _ e .0 in
@@ -70,7 +70,7 @@ module _ (z : Size) (s o : ℕ) (u : State) (sized : Sized z u) (inside : o < z 
           let pair : Pair = pairAt z u s o in
           let declared : pair .declared ≡ true = both-true (pair .declared) _ e .0 in
           let all : slotsAsked (z .slots) true pair ≡ z .slots = ap (λ (b : Bool). pick b (z .slots) 0) e in
-          let object : endedObject (z .slots) true pair (objectAt u o) ≡ ended (z .slots) pair (restored pair (objectAt u o)) =
-          λ i. pick (declared i) (ended (z .slots) pair (pick (e i) (restored pair (objectAt u o)) (objectAt u o))) (objectAt u o) in
+          let object : endedObject (z .slots) true pair (objectAt u o) ≡ settled (z .slots) pair (restored pair (objectAt u o)) =
+          λ i. pick (declared i) (settled (z .slots) pair (pick (e i) (restored pair (objectAt u o)) (objectAt u o))) (objectAt u o) in
           (λ i. eachBelow (all i) (λ r w. spoilOne z s o r w) (withObject u o (object i))) ∙ back e
       go false e = rw e (each-zero (λ r w. spoilOne z s o r w) _ ∙ plain)

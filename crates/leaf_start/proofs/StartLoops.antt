@@ -63,10 +63,10 @@ module _ {z : Size} {s : ℕ} {list : List ℕ} {next : ℕ} {t₀ t : State} (d
   pub declares-all : length list - next ≤ 1 → t ≡ declareAll z s (declarationsOf list) t₀
   declares-all none = sym (declaring .declared ∙ ap (λ (l : List Declaration). declareAll z s l t) (declarations-end list next none))
 
-all-pass : (rules : List Rule) → decide rules Refuses Passes ≡ Passes → deciding.Passes rules
+all-pass : (rules : List Rule) → decide rules Refuses Passes ≡ Passes → deciding.NoneHolds rules
 all-pass rules e = go (decided rules)
   where
-    go : Accepts rules ⊎ deciding.Refuses rules → deciding.Passes rules
+    go : Accepts rules ⊎ deciding.OneHolds rules → deciding.NoneHolds rules
     go (inl a) = a .passes
     go (inr r) =
         let clash : _≡_ {A = ℕ} 0 1 = cc (r .gives Refuses Passes) in
@@ -76,14 +76,14 @@ all-pass rules e = go (decided rules)
 pub record Judged (z : Size) (t : State) (slot s : ℕ) (list : List ℕ) (live : Bool) (verdict : Verdict) : Type 0 where
   pub right-slot : slot < z .slots → s ≡ slot
   pub is-live : live ≡ liveAt t s
-  pub is-verdict : verdict ≡ decide (startRules z slot live list) Refuses Passes
+  pub is-verdict : verdict ≡ decide (startRules z slot live (length list) (declarationsOf list)) Refuses Passes
 
 module _ {z : Size} {t : State} {slot s : ℕ} {list : List ℕ} {live : Bool} {verdict : Verdict} (judged : Judged z t slot s list live verdict) where
   abbrev rules : List Rule
-  rules = startRules z slot live list
+  rules = startRules z slot live (length list) (declarationsOf list)
 
   abbrev begun : ℕ → Stepping
-  begun r = record { tables = startEffect z r list t; reply = accepted 0 }
+  begun r = record { tables = startEffect z r (declarationsOf list) t; reply = accepted 0 }
 
   same-rules : decide rules (unchanged t) (begun slot) ≡ startStep z t slot list
   same-rules = by-slot (leb (z .slots) slot) refl
@@ -96,7 +96,7 @@ module _ {z : Size} {t : State} {slot s : ℕ} {list : List ℕ} {live : Bool} {
   start-refused {refusal} refuses = sym (when-refuses rules refusal (sym (judged .is-verdict) ∙ refuses) (unchanged t) (begun slot)) ∙ same-rules
 
   module _ (passes : verdict ≡ Passes) where
-    passed : deciding.Passes rules
+    passed : deciding.NoneHolds rules
     passed = all-pass rules (sym (judged .is-verdict) ∙ passes)
 
     fits : StartFits z slot live list

@@ -1,5 +1,6 @@
 // What the rules of a start say of its slot and its list.
 ghost use mathlib.Core.Path.{_≡_};
+ghost use lib.ListN.{length};
 ghost use Rattle.answers.specs.Order.{decide};
 ghost use Rattle.record_layout.specs.Declarations.{declarationsOf};
 ghost use Rattle.rules.specs.Refusing.{startRules, declarationRules};
@@ -31,7 +32,7 @@ fn declarations(size: Size, list: &[u8]) -> Verdict
 
 // R21: 1, 4, 3 by the list's length, then declaration by declaration.
 pub fn verdict(size: Size, slot: SlotNo, live: bool, list: &[u8]) -> Verdict
-    ensures { λ r. ⌜ r ≡ decide (startRules size (slot .0) live (now (list .entry))) Refuses Passes ⌝ }
+    ensures { λ r. ⌜ r ≡ decide (startRules size (slot .0) live (length (now (list .entry))) (declarationsOf (now (list .entry)))) Refuses Passes ⌝ }
 {
     if size.slots <= slot.0 {
         return Verdict::Refuses(Refusal::BadSlot);

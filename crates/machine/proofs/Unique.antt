@@ -7,7 +7,7 @@ use Rattle.counters.specs.Sizes.{base}
 use Rattle.rules.specs.Steps.{Stepping, Outcome}
 use Rattle.tables.specs.Places.{Fits}
 use Rattle.tables.proofs.OneToOne.{one-to-one}
-use Rattle.machine.specs.Views.{view, told, ended}
+use Rattle.machine.specs.Views.{view, told, toldWith}
 use Rattle.machine.specs.declared.Tables.{Tables}
 use Rattle.machine.specs.declared.Stepped.{Stepped}
 
@@ -28,7 +28,7 @@ told-tells r other right right′ e =
       answer = reply-tells (r .answer) (other .answer) (ap (λ (s : Stepping). s .reply) e) i;
     }
 
-pub ended-tells : (r other : Stepped) (left right : List ℕ) → Typed (r .tables) → Typed (other .tables) → ended r left ≡ ended other right
+pub told-with-tells : (r other : Stepped) (left right : List ℕ) → Typed (r .tables) → Typed (other .tables) → toldWith r left ≡ toldWith other right
     → (r ≡ other) × (left ≡ right)
-ended-tells r other left right typed typed′ e =
+told-with-tells r other left right typed typed′ e =
     (told-tells r other typed typed′ (λ i. record { tables = e i .tables; reply = e i .reply }), ap (λ (o : Outcome). o .buffer) e)

@@ -15,5 +15,5 @@ abbrev pub told : Stepped → Stepping
 told r = record { tables = view (r .tables); reply = replyOf (r .answer) }
 
 -- the same with the buffer that was lent
-abbrev pub ended : Stepped → List ℕ → Outcome
-ended r buffer = record { tables = view (r .tables); reply = replyOf (r .answer); buffer = buffer }
+abbrev pub toldWith : Stepped → List ℕ → Outcome
+toldWith r buffer = record { tables = view (r .tables); reply = replyOf (r .answer); buffer = buffer }

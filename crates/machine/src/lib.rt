@@ -4,7 +4,7 @@ ghost use mathlib.Core.Bool.{true, false};
 ghost use mathlib.Core.Path.{_≡_};
 ghost use Rattle.counters.specs.Sizes.{base};
 ghost use Rattle.rules.specs.Steps.{startStep, callStep, releaseStep, endStep};
-ghost use Rattle.machine.specs.Views.{view, told, ended};
+ghost use Rattle.machine.specs.Views.{view, told, toldWith};
 use answers::Answer;
 use counters::ObjectNo;
 use counters::SlotNo;
@@ -82,19 +82,19 @@ impl Tables {
     }
 
     pub fn commit(self, slot: SlotNo, tick: u32, buf: &mut [u8]) -> Stepped
-        ensures { λ r. ⌜ ended r (now (buf .exit)) ≡ endStep base false (view self) (slot .0) tick (now (buf .entry)) ⌝ }
+        ensures { λ r. ⌜ toldWith r (now (buf .exit)) ≡ endStep base false (view self) (slot .0) tick (now (buf .entry)) ⌝ }
     {
         self.end(slot, tick, false, buf)
     }
 
     pub fn rollback(self, slot: SlotNo, tick: u32, buf: &mut [u8]) -> Stepped
-        ensures { λ r. ⌜ ended r (now (buf .exit)) ≡ endStep base true (view self) (slot .0) tick (now (buf .entry)) ⌝ }
+        ensures { λ r. ⌜ toldWith r (now (buf .exit)) ≡ endStep base true (view self) (slot .0) tick (now (buf .entry)) ⌝ }
     {
         self.end(slot, tick, true, buf)
     }
 
     fn end(self, slot: SlotNo, tick: u32, rollback: bool, buf: &mut [u8]) -> Stepped
-        ensures { λ r. ⌜ ended r (now (buf .exit)) ≡ endStep base rollback (view self) (slot .0) tick (now (buf .entry)) ⌝ }
+        ensures { λ r. ⌜ toldWith r (now (buf .exit)) ≡ endStep base rollback (view self) (slot .0) tick (now (buf .entry)) ⌝ }
     {
         let mut words = self.words;
         let mut bytes = self.bytes;

@@ -73,8 +73,8 @@ abbrev pub letGo : Version → Object → Object
 letGo private object = record { word = object .word; global = object .global; local = private; terminal = object .terminal }
 
 -- R16: a declared object behind an end
-abbrev pub ended : ℕ → Pair → Object → Object
-ended slots pair object =
+abbrev pub settled : ℕ → Pair → Object → Object
+settled slots pair object =
     record {
       word = object .word;
       global = object .global;

@@ -1,7 +1,7 @@
 // One object and one pair, and what each event but a call makes of one of them.
 
 ghost use mathlib.Core.Path.{_≡_};
-ghost use Rattle.objects.specs.Places.{turnOf, givenOut, letGo, ended, restored, restores, declaredWith, noPair};
+ghost use Rattle.objects.specs.Places.{turnOf, givenOut, letGo, settled, restored, restores, declaredWith, noPair};
 use counters::CallCount;
 use counters::Turn;
 use counters::Version;
@@ -57,7 +57,7 @@ impl Object {
 
     // R16: the versions behind an end.
     pub fn end(self, pair: Pair, slots: u8) -> Object
-        ensures { λ r. ⌜ r ≡ ended slots pair self ⌝ }
+        ensures { λ r. ⌜ r ≡ settled slots pair self ⌝ }
     {
         let private = pair.private;
         let global = self.global;

@@ -1,7 +1,7 @@
 // Whether fields and a list make a readable record, told before any body is made.
 ghost use mathlib.Core.Path.{_≡_};
 ghost use Rattle.counters.specs.Sizes.{base};
-ghost use Rattle.record_layout.specs.Beside.{itemsBeside, endBeside, contentBeside};
+ghost use Rattle.record_layout.specs.Serving.Beside.{itemsBeside, endBeside, contentBeside};
 ghost use Rattle.record_layout.specs.Kinds.{shapeOf};
 ghost use Rattle.record_layout.specs.Writing.{readable};
 use counters::OBJECTS;

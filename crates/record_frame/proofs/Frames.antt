@@ -6,7 +6,7 @@ use mathlib.Core.Path.{_≡_, _∙_}
 use lib.ListN.{length, take, drop}
 use native.Mathlib.Omega.{arith}
 use borrow.Author.Tests.{ltb-false}
-use Rattle.answers.proofs.Deciding.{Accepts, Refuses, decided}
+use Rattle.answers.proofs.Deciding.{Accepts, OneHolds, decided}
 use Rattle.answers.specs.declared.Refusal.{Refusal}
 use Rattle.counters.specs.Sizes.{Size}
 use Rattle.record_layout.specs.Kinds.{kindOf}
@@ -25,7 +25,7 @@ pub record IsWhole (z : Size) (s : List ℕ) (length-told number : ℕ) : Type 0
 pub whole : (z : Size) (s : List ℕ) (told number : ℕ) → framing z s ≡ Framing.Whole told number → IsWhole z s told number
 whole z s told number e = go (decided (frameRules z s))
   where
-    go : Accepts (frameRules z s) ⊎ Refuses (frameRules z s) → IsWhole z s told number
+    go : Accepts (frameRules z s) ⊎ OneHolds (frameRules z s) → IsWhole z s told number
     go (inl a) =
         let same = a .gives Framing.Refused (Framing.Whole (lengthField s) (kindField s)) in
         let long : lengthField s ≡ told = cc same in
@@ -48,7 +48,7 @@ pub record IsRefused (z : Size) (s : List ℕ) (refusal : Refusal) : Type 0 wher
 pub not-whole : (z : Size) (s : List ℕ) (refusal : Refusal) → framing z s ≡ Framing.Refused refusal → IsRefused z s refusal
 not-whole z s refusal e = go (decided (frameRules z s))
   where
-    go : Accepts (frameRules z s) ⊎ Refuses (frameRules z s) → IsRefused z s refusal
+    go : Accepts (frameRules z s) ⊎ OneHolds (frameRules z s) → IsRefused z s refusal
     go (inl a) =
         let clash : _≡_ {A = ℕ} 0 1 = cc (a .gives Framing.Refused (Framing.Whole (lengthField s) (kindField s))) in
         absurd (omega arith)

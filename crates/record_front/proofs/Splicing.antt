@@ -7,10 +7,8 @@ use lib.ListN.{length, take, drop, replicate, length-append}
 use lib.Seq.{take-at, take-length, drop-drop, drop-append-add}
 use Rattle.record_layout.specs.Kinds.{shapeOf}
 use Rattle.record_layout.specs.Fields.{kindOfFields, frontOf, recordOf}
-use Rattle.record_layout.specs.declared.kind.Kind.{Kind}
-use Rattle.record_layout.specs.declared.kind.Kind.the-variants.{Fresh, Start, Call, Release, End, Ended}
 use Rattle.record_layout.specs.declared.fields.Fields.{Fields}
-use Rattle.record_layout.proofs.Lengths.{length-front}
+use Rattle.record_layout.proofs.Lengths.{length-front, row}
 use Rattle.record_front.specs.Filled.{filled}
 
 -- the next bytes behind a front
@@ -48,12 +46,4 @@ front-and-list f list made b begun written at place is-made first second room =
 
 -- an array of twelve bytes holds every front
 pub small-front : (f : Fields) → 4 + shapeOf (kindOfFields f) .head ≤ 12
-small-front f = go (kindOfFields f)
-  where
-    go : (k : Kind) → 4 + shapeOf k .head ≤ 12
-    go Fresh = omega arith
-    go Start = omega arith
-    go Call = omega arith
-    go Release = omega arith
-    go (End rollback) = omega arith
-    go (Ended rollback) = omega arith
+small-front f = omega (arith, row (kindOfFields f) .short-head)

@@ -6,7 +6,7 @@ use native.Mathlib.Omega.{arith}
 use lib.ListN.{length, take, length-append}
 use lib.Seq.{take-at}
 use borrow.Author.Tests.{le-ltb}
-use Rattle.answers.proofs.Deciding.{Passes, passed}
+use Rattle.answers.proofs.Deciding.{NoneHolds, passed}
 use Rattle.counters.specs.Sizes.{Size}
 use Rattle.record_layout.specs.Bytes.{halfBytes}
 use Rattle.record_layout.specs.Kinds.{kindOf, bodyLimit}
@@ -15,7 +15,7 @@ use Rattle.record_layout.specs.declared.fields.Reading.{Reading}
 use Rattle.record_layout.specs.declared.fields.Reading
 use Rattle.record_layout.proofs.LittleEndian.{half-back}
 
--- 'length u16 (bytes of the body only), kind u16, body'
+-- R24: the length of the body, the kind, and what stands behind them
 abbrev pub framed : ℕ → ℕ → List ℕ → List ℕ
 framed bytes number behind = halfBytes bytes ++ (halfBytes number ++ behind)
 
@@ -26,7 +26,7 @@ module _ (z : Size) (number : ℕ) (b rest : List ℕ) (short : length b ≤ bod
   length-told : lengthField s ≡ length b
   length-told = half-back (length b) (halfBytes number ++ (b ++ rest)) (omega arith)
 
-  frame-passes : Passes (frameRules z s)
+  frame-passes : NoneHolds (frameRules z s)
   frame-passes =
       let whole : length (b ++ rest) ≡ length b + length rest = length-append b rest in (
         le-ltb (length s) 4 (omega arith),
@@ -42,7 +42,7 @@ module _ (z : Size) (number : ℕ) (b rest : List ℕ) (short : length b ≤ bod
       passed (frameRules z s) (λ refusal. []) (take (lengthField s) (b ++ rest)) frame-passes
       ∙ take-at b rest (lengthField s) (sym length-told)
 
-  -- 'Bytes behind the record don't matter': the reading is that of the body
+  -- R29: bytes behind the record do not count, and the reading is that of the body
   pub frame-reading : reading z s ≡ readingOf z (kindOf (kindField s)) b
   frame-reading =
       passed (frameRules z s) Reading.Refused (readingOf z (kindOf (kindField s)) (body z s)) frame-passes

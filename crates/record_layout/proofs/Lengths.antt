@@ -3,7 +3,7 @@
 use Prim.Native.Nat.{ℕ, _+_, _-_, _*_, _<_, _≤_}
 use mathlib.Core.Bool.{Bool, true, false, _&&_}
 use mathlib.Core.List.{List}
-use mathlib.Core.Path.{_≡_, refl, sym, ap, _∙_}
+use mathlib.Core.Path.{_≡_, refl, sym, ap, subst, _∙_}
 use native.Mathlib.Omega.{arith}
 use lib.ListN.{length, length-append}
 use lib.Dec.{leb, eqb}
@@ -13,7 +13,7 @@ use Rattle.record_layout.specs.Kinds.{shapeOf, itemsOf, bodyLength, body
 use Rattle.record_layout.specs.Fields.{kindOfEvent, kindOfFields, eventHead, headOf, frontOf, bodyOf, recordOf}
 use Rattle.record_layout.specs.Reading.{contentRight}
 use Rattle.record_layout.specs.Writing.{readable}
-use Rattle.record_layout.specs.Beside.{itemsBeside, contentBeside}
+use Rattle.record_layout.specs.Serving.Beside.{itemsBeside, contentBeside}
 use Rattle.record_layout.specs.declared.kind.Kind.{Kind}
 use Rattle.record_layout.specs.declared.kind.Kind.the-variants.{Fresh, Start, Call, Release, End, Ended}
 use Rattle.record_layout.specs.declared.kind.Shape.{Shape}
@@ -85,23 +85,26 @@ readable-beside z f list =
       eqb-behind (shape .head) (length list) (shape .item * itemsBeside z shape (length list)),
     )
 
--- items that are counted have bytes
-pub counted-item : (k : Kind) → shapeOf k .counted ≡ true → 0 < shapeOf k .item
-counted-item Fresh e = let clash : _≡_ {A = ℕ} 0 1 = cc in absurd (omega arith)
-counted-item Start e = omega arith
-counted-item Call e = let clash : _≡_ {A = ℕ} 0 1 = cc in absurd (omega arith)
-counted-item Release e = let clash : _≡_ {A = ℕ} 0 1 = cc in absurd (omega arith)
-counted-item (End rollback) e = let clash : _≡_ {A = ℕ} 0 1 = cc in absurd (omega arith)
-counted-item (Ended rollback) e = omega arith
+-- what holds of every row of the table: the head has one to eight bytes, and items that are counted have some
+pub record Row (shape : Shape) : Type 0 where
+  pub some-head : 0 < shape .head
+  pub short-head : shape .head ≤ 8
+  pub counted-item : shape .counted ≡ true → 0 < shape .item
 
--- every head has a byte
-pub some-head : (k : Kind) → 0 < shapeOf k .head
-some-head Fresh = omega arith
-some-head Start = omega arith
-some-head Call = omega arith
-some-head Release = omega arith
-some-head (End rollback) = omega arith
-some-head (Ended rollback) = omega arith
+not-counted : {A : Type 0} → _≡_ {A = Bool} false true → A
+not-counted wrong = let clash : _≡_ {A = ℕ} 0 1 = cc in absurd (omega arith)
+
+pub row : (k : Kind) → Row (shapeOf k)
+row Fresh = record { some-head = omega arith; short-head = omega arith; counted-item = not-counted }
+row Start = record { some-head = omega arith; short-head = omega arith; counted-item = λ counted. omega arith }
+row Call = record { some-head = omega arith; short-head = omega arith; counted-item = not-counted }
+row Release = record { some-head = omega arith; short-head = omega arith; counted-item = not-counted }
+row (End rollback) = record { some-head = omega arith; short-head = omega arith; counted-item = not-counted }
+row (Ended rollback) = record { some-head = omega arith; short-head = omega arith; counted-item = λ counted. omega arith }
+
+-- the head of a kind that is told is there
+pub head-of : {j k : Kind} (b : List ℕ) → j ≡ k → shapeOf j .head ≤ length b → shapeOf k .head ≤ length b
+head-of b told there = subst (λ (x : Kind). shapeOf x .head ≤ length b) told there
 
 -- the length of a body, told by what is left behind its head
 pub by-the-rest : (z : Size) (k : Kind) (b : List ℕ) (shape : Shape) (items : ℕ) → shape ≡ shapeOf k → shape .head ≤ length b → items ≡ itemsOf z shape b

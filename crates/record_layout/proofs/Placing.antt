@@ -9,21 +9,22 @@ use borrow.Author.Tests.{lt-ltb, le-ltb, leb-true}
 use Rattle.counters.specs.Sizes.{Size}
 use Rattle.record_layout.specs.Kinds.{bodyLimit}
 use Rattle.record_layout.specs.Fields.{bodyOf, recordOf}
-use Rattle.record_layout.specs.Writing.{readable, writing, placing}
+use Rattle.record_layout.specs.Writing.{readable, writing}
+use Rattle.record_layout.specs.Serving.Placing.{placing}
 use Rattle.record_layout.specs.declared.fields.Fields.{Fields}
 
 module _ (z : Size) (f : Fields) (list buffer : List ℕ) where
-  -- 'A body has at most 126 bytes'
+  -- a body over the limit is refused
   pub long-refused : bodyLimit z < length (bodyOf f list)
       → placing z f list buffer ≡ record { reply = record { number = 12; value = 0 }; buffer = buffer }
   long-refused long = rw (lt-ltb (bodyLimit z) (length (bodyOf f list)) long)
 
-  -- 'then a short buffer gives 11'
+  -- then a short buffer is
   pub no-room-refused : length (bodyOf f list) ≤ bodyLimit z → length buffer < length (recordOf f list)
       → placing z f list buffer ≡ record { reply = record { number = 11; value = 0 }; buffer = buffer }
   no-room-refused fits short = rw (le-ltb (bodyLimit z) (length (bodyOf f list)) fits, lt-ltb (length buffer) (length (recordOf f list)) short)
 
-  -- 'else the record stands at the buffer's first byte, the rest stays and the value is the bytes written'
+  -- and else the record stands in front
   pub room-placed : length (bodyOf f list) ≤ bodyLimit z → length (recordOf f list) ≤ length buffer
       → placing z f list buffer
       ≡ record {

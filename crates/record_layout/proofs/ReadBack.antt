@@ -7,12 +7,12 @@ use native.Mathlib.Nat.{add-sub-cancel-left}
 use native.Mathlib.Omega.{arith}
 use lib.ListN.{length, take, drop, length-append}
 use lib.Seq.{take-at, drop-at}
-use Rattle.answers.proofs.Deciding.{Passes, passed}
+use Rattle.answers.proofs.Deciding.{NoneHolds, passed}
 use Rattle.counters.specs.Sizes.{Size}
 use Rattle.record_layout.specs.Bytes.{halfBytes, halfOf}
 use Rattle.record_layout.specs.Kinds.{shapeOf, kindOf, bodyLimit}
 use Rattle.record_layout.specs.Fields.{fieldsOf, kindOfEvent, kindOfFields, eventHead, bodyOf, listPlace, frontOf, recordOf}
-use Rattle.record_layout.specs.Fitting.{Fit, FitEvent}
+use Rattle.record_layout.specs.Serving.Fitting.{Fit, FitEvent}
 use Rattle.record_layout.specs.Reading.{bodyRules, bodyReading, readingOf, reading, listIn, listing}
 use Rattle.record_layout.specs.Writing.{readable}
 use Rattle.record_layout.specs.declared.kind.Kind.{Kind}
@@ -56,7 +56,7 @@ fields-back (Fields.Event event) list fit = go event fit
     go (Event.End slot tick rollback) fit = rw (word-back tick list (fit .1))
 fields-back (Fields.Ended tick slot rollback) list fit = rw (word-back tick (slot .0 ∷ length list / 5 ∷ list) (fit .0))
 
-body-reads : (z : Size) (f : Fields) (list : List ℕ) → Fit f → Passes (bodyRules z (kindOfFields f) (bodyOf f list))
+body-reads : (z : Size) (f : Fields) (list : List ℕ) → Fit f → NoneHolds (bodyRules z (kindOfFields f) (bodyOf f list))
     → bodyReading z (kindOfFields f) (bodyOf f list) ≡ Reading.Record f (listPlace (kindOfFields f)) (4 + length (bodyOf f list))
 body-reads z f list fit passes =
     let k : Kind = kindOfFields f in

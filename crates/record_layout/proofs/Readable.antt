@@ -7,7 +7,7 @@ use native.Mathlib.Omega.{arith}
 use lib.ListN.{length}
 use lib.Dec.{leb, eqb}
 use borrow.Author.Tests.{leb-true, le-leb, not-false}
-use Rattle.answers.proofs.Deciding.{Passes}
+use Rattle.answers.proofs.Deciding.{NoneHolds}
 use Rattle.answers.proofs.Tests.{both-true}
 use Rattle.counters.specs.Sizes.{Size}
 use Rattle.record_layout.specs.Kinds.{bodyLength, bodyLimit}
@@ -20,7 +20,7 @@ use Rattle.record_layout.specs.declared.fields.Fields.{Fields}
 -- what reading asks of a body of a kind
 pub record IsRight (z : Size) (k : Kind) (b : List ℕ) : Type 0 where
   pub short : length b ≤ bodyLimit z
-  pub passes : Passes (bodyRules z k b)
+  pub passes : NoneHolds (bodyRules z k b)
 
 -- a readable record has a right body
 pub readable-right : (z : Size) (f : Fields) (list : List ℕ) → readable z f list ≡ true → IsRight z (kindOfFields f) (bodyOf f list)

@@ -10,7 +10,7 @@ use lib.Seq.{length-take-le, drop-drop, drop-nil, take-nil}
 use lib.Dec.{eqb}
 use borrow.Author.Tests.{ltb-false, eqb-true, not-false}
 use Rattle.answers.specs.Order.{Rule, pick, decide}
-use Rattle.answers.proofs.Deciding.{Passes, Accepts, Refuses, decided, passed}
+use Rattle.answers.proofs.Deciding.{NoneHolds, Accepts, OneHolds, decided, passed}
 use Rattle.counters.specs.Sizes.{Size}
 use Rattle.record_layout.specs.Bytes.{AreBytes, halfBytes, wordBytes, wordOf}
 use Rattle.record_layout.specs.Kinds.{shapeOf, kindAmong, kindOf, kinds, itemsOf, bodyLength, bodyLimit}
@@ -87,26 +87,26 @@ kind-kept (Ended rollback) b = refl
 
 -- what holds where bytes read as a record
 pub record IsRead (z : Size) (s : List ℕ) (f : Fields) (list taken : ℕ) : Type 0 where
-  pub frame-passes : Passes (frameRules z s)
+  pub frame-passes : NoneHolds (frameRules z s)
   pub kind-is : kindField s ≡ shapeOf (kindOfFields f) .number
-  pub body-passes : Passes (bodyRules z (kindOfFields f) (body z s))
+  pub body-passes : NoneHolds (bodyRules z (kindOfFields f) (body z s))
   pub fields-are : fieldsOf (kindOfFields f) (body z s) ≡ f
   pub list-is : list ≡ listPlace (kindOfFields f)
   pub taken-is : taken ≡ 4 + length (body z s)
 
 -- where rules that refuse a reading give a record, they pass
 rules-passed : (rules : List Rule) (r : Reading) (f : Fields) (list taken : ℕ) → decide rules Reading.Refused r ≡ Reading.Record f list taken
-    → Passes rules × (r ≡ Reading.Record f list taken)
+    → NoneHolds rules × (r ≡ Reading.Record f list taken)
 rules-passed rules r f list taken read = go (decided rules)
   where
-    go : Accepts rules ⊎ Refuses rules → Passes rules × (r ≡ Reading.Record f list taken)
+    go : Accepts rules ⊎ OneHolds rules → NoneHolds rules × (r ≡ Reading.Record f list taken)
     go (inl accepts) = (accepts .passes, sym (accepts .gives Reading.Refused r) ∙ read)
     go (inr refuses) = let clash : _≡_ {A = ℕ} 0 1 = cc (refuses .gives Reading.Refused r) in absurd (omega arith)
 
 pub record-read : (z : Size) (s : List ℕ) (f : Fields) (list taken : ℕ) → reading z s ≡ Reading.Record f list taken → IsRead z s f list taken
 record-read z s f list taken read = go (kindOf (kindField s)) refl (whole .1)
   where
-    whole : Passes (frameRules z s) × (readingOf z (kindOf (kindField s)) (body z s) ≡ Reading.Record f list taken)
+    whole : NoneHolds (frameRules z s) × (readingOf z (kindOf (kindField s)) (body z s) ≡ Reading.Record f list taken)
     whole = rules-passed (frameRules z s) (readingOf z (kindOf (kindField s)) (body z s)) f list taken read
 
     go : (found : KindFound) → kindOf (kindField s) ≡ found → readingOf z found (body z s) ≡ Reading.Record f list taken → IsRead z s f list taken
@@ -121,7 +121,7 @@ record-read z s f list taken read = go (kindOf (kindField s)) refl (whole .1)
         record {
           frame-passes = whole .0;
           kind-is = kind-number kinds (kindField s) k e ∙ ap (λ (x : Kind). shapeOf x .number) same;
-          body-passes = subst (λ (x : Kind). Passes (bodyRules z x b)) same (right .0);
+          body-passes = subst (λ (x : Kind). NoneHolds (bodyRules z x b)) same (right .0);
           fields-are = subst (λ (x : Kind). fieldsOf x b ≡ f) same fields;
           list-is = sym place ∙ ap listPlace same;
           taken-is = sym ends;

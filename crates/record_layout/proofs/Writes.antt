@@ -11,12 +11,12 @@ use lib.Dec.{ltb}
 use borrow.Author.Tests.{lt-ltb, le-ltb, ltb-true, ltb-false}
 use Rattle.answers.specs.Numbers.{accepted, refused}
 use Rattle.answers.specs.declared.Refusal.{Refusal}
-use Rattle.answers.proofs.Deciding.{Accepts, Refuses, decided}
+use Rattle.answers.proofs.Deciding.{Accepts, OneHolds, decided}
 use Rattle.counters.specs.Sizes.{Size}
 use Rattle.record_layout.specs.Bytes.{AreBytes}
 use Rattle.record_layout.specs.Kinds.{bodyLimit}
 use Rattle.record_layout.specs.Fields.{recordOf}
-use Rattle.record_layout.specs.Fitting.{Fit}
+use Rattle.record_layout.specs.Serving.Fitting.{Fit}
 use Rattle.record_layout.specs.Reading.{reading, listing}
 use Rattle.record_layout.specs.Writing.{Written, readable, writingRules, writing}
 use Rattle.record_layout.specs.declared.fields.Fields.{Fields}
@@ -26,17 +26,17 @@ use Rattle.record_layout.proofs.ReadBack.{ReadsAs, written-reads-back}
 use Rattle.record_layout.proofs.WriteBack.{read-is-written}
 
 module _ (z : Size) (f : Fields) (list buffer : List ℕ) where
-  -- 'fields that make no readable record (for a start, also an odd list) give 12'
+  -- R32: fields that make no readable record are refused by 12
   pub unreadable-refused : readable z f list ≡ false
       → writing z f list buffer ≡ record { reply = record { number = 12; value = 0 }; buffer = buffer }
   unreadable-refused unreadable = rw unreadable
 
-  -- 'then a short buffer gives 11'
+  -- then a short buffer by 11
   pub short-refused : readable z f list ≡ true → length buffer < length (recordOf f list)
       → writing z f list buffer ≡ record { reply = record { number = 11; value = 0 }; buffer = buffer }
   short-refused reads short = rw (reads, lt-ltb (length buffer) (length (recordOf f list)) short)
 
-  -- 'else the record stands at the buffer's first byte, the rest stays and the value is the bytes written'
+  -- and else the record stands in front of what the buffer held
   pub room-accepted : readable z f list ≡ true → length (recordOf f list) ≤ length buffer
       → writing z f list buffer
       ≡ record {
@@ -45,7 +45,7 @@ module _ (z : Size) (f : Fields) (list buffer : List ℕ) where
       }
   room-accepted reads room = rw (reads, le-ltb (length buffer) (length (recordOf f list)) room)
 
-  -- 'Every refusal has value 0' and 'touches no byte of any buffer'
+  -- R11: a refusal has value 0 and leaves every byte
   pub refusal-leaves-all : ((writing z f list buffer) .reply .number ≡ 0 → ⊥)
       → ((writing z f list buffer) .reply .value ≡ 0) × ((writing z f list buffer) .buffer ≡ buffer)
   refusal-leaves-all refuses = go (decided (writingRules z f list buffer))
@@ -56,7 +56,7 @@ module _ (z : Size) (f : Fields) (list buffer : List ℕ) where
       made : Written
       made = record { reply = accepted (length (recordOf f list)); buffer = recordOf f list ++ drop (length (recordOf f list)) buffer }
 
-      go : Accepts (writingRules z f list buffer) ⊎ Refuses (writingRules z f list buffer)
+      go : Accepts (writingRules z f list buffer) ⊎ OneHolds (writingRules z f list buffer)
           → ((writing z f list buffer) .reply .value ≡ 0) × ((writing z f list buffer) .buffer ≡ buffer)
       go (inl accepts) = absurd (refuses (ap (λ (w : Written). w .reply .number) (accepts .gives left made)))
       go (inr refuses) =

@@ -1,4 +1,4 @@
--- The entries of an end record: '(object u8, private version u32)', 'all declared objects, rising'.
+-- R24: the entries of an end record, an object and a version each, and whether their objects rise.
 use Prim.Native.Nat.{ℕ, _+_}
 use mathlib.Core.Bool.{Bool, true, _&&_}
 use mathlib.Core.List.{List, [], _∷_}

@@ -3,7 +3,6 @@ pub mod Kinds
 pub mod Entries
 pub mod Declarations
 pub mod Fields
-pub mod Fitting
 pub mod Reading
 pub mod Writing
-pub mod Beside
+pub mod Serving

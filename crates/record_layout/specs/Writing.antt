@@ -1,5 +1,4 @@
--- Writing: 'fields that make no readable record (for a start, also an odd list) give 12, then a short buffer gives 11, else the record
--- stands at the buffer's first byte, the rest stays and the value is the bytes written.'
+-- R32: what a writer gives for fields, a list and a buffer.
 use Prim.Native.Nat.{ℕ}
 use mathlib.Core.Bool.{Bool, not, _&&_}
 use mathlib.Core.List.{List, [], _∷_, _++_}
@@ -29,7 +28,7 @@ pub record Written : Type 0 where
 abbrev pub written : Answer → List ℕ → Written
 written answer buffer = record { reply = replyOf answer; buffer = buffer }
 
--- by rules that refuse: 'touches no byte of any buffer', or 'the record stands at the buffer's first byte, the rest stays and ..'
+-- a refusal leaves the buffer; else the record stands in front of it, and the value is its bytes
 abbrev pub writtenBy : List Rule → Fields → List ℕ → List ℕ → Written
 writtenBy rules f list buffer =
     decide rules
@@ -44,13 +43,3 @@ writingRules z f list buffer =
 
 abbrev pub writing : Size → Fields → List ℕ → List ℕ → Written
 writing z f list buffer = writtenBy (writingRules z f list buffer) f list buffer
-
--- a record that need not be readable, as that of an end with nothing declared: 'A body has at most 126 bytes.'
-abbrev pub placingRules : Size → Fields → List ℕ → List ℕ → List Rule
-placingRules z f list buffer =
-    BadRecord when ltb (bodyLimit z) (length (bodyOf f list))
-    ∷ NoRoom when ltb (length buffer) (length (recordOf f list))
-    ∷ []
-
-abbrev pub placing : Size → Fields → List ℕ → List ℕ → Written
-placing z f list buffer = writtenBy (placingRules z f list buffer) f list buffer

@@ -7,7 +7,7 @@ use mathlib.Core.Path.{_≡_, ap}
 use lib.Dec.{ltb}
 use lib.ListN.{length}
 use borrow.Author.Tests.{leb-false, lt-leb, ltb-false, le-ltb, not-false}
-use Rattle.answers.proofs.Deciding.{Passes}
+use Rattle.answers.proofs.Deciding.{NoneHolds}
 use Rattle.counters.specs.Sizes.{Size}
 use Rattle.counters.specs.Versions.{next, difference}
 use Rattle.record_layout.specs.Declarations.{declarationsOf}
@@ -60,16 +60,16 @@ pub record CommitFits (z : Size) (t : State) (s tick : ℕ) (buffer : List ℕ) 
   pub end : EndFits z false t s tick buffer
   pub unspoiled : Unspoiled z t s
 
-pub start-fits : (z : Size) (s : ℕ) (live : Bool) (list : List ℕ) → Passes (startRules z s live list) ↔ StartFits z s live list
+pub start-fits : (z : Size) (s : ℕ) (live : Bool) (list : List ℕ) → NoneHolds (startRules z s live (length list) (declarationsOf list)) ↔ StartFits z s live list
 start-fits z s live list = (tells, passes)
   where
-    long : (badLength z list ≡ false) ↔ ((length list ≢ 0) × (length list % 2 ≡ 0) × (length list ≤ 2 * z .objects))
+    long : (badLength z (length list) ≡ false) ↔ ((length list ≢ 0) × (length list % 2 ≡ 0) × (length list ≤ 2 * z .objects))
     long = length-fits (z .objects) (length list)
 
-    rise : Passes (declarationRules z 0 (declarationsOf list)) ↔ Rises z 0 (declarationsOf list)
+    rise : NoneHolds (declarationRules z 0 (declarationsOf list)) ↔ Rises z 0 (declarationsOf list)
     rise = declarations-rise z 0 (declarationsOf list)
 
-    tells : Passes (startRules z s live list) → StartFits z s live list
+    tells : NoneHolds (startRules z s live (length list) (declarationsOf list)) → StartFits z s live list
     tells (slot, (free, (fits, rises))) =
         let fitting = long .0 fits in
         record {
@@ -81,21 +81,21 @@ start-fits z s live list = (tells, passes)
           rises = rise .0 rises;
         }
 
-    passes : StartFits z s live list → Passes (startRules z s live list)
+    passes : StartFits z s live list → NoneHolds (startRules z s live (length list) (declarationsOf list))
     passes f = (lt-leb (z .slots) s (f .slot), (f .free, (long .1 (f .some, f .even, f .short), rise .1 (f .rises))))
 
 module _ (z : Size) (t : State) where
   none-spoiled : (s : ℕ) → (doomed z t s ≡ false) ↔ Unspoiled z t s
   none-spoiled s = (any-none (z .objects) (λ q. pairAt z t s q .spoiled), none-any (z .objects) (λ q. pairAt z t s q .spoiled))
 
-  release-fits : (s o : ℕ) → Passes (rulesOfRelease z t s o) ↔ ReleaseFits z t s o
+  release-fits : (s o : ℕ) → NoneHolds (rulesOfRelease z t s o) ↔ ReleaseFits z t s o
   release-fits s o = (tells, passes)
     where
       now : ((saysReleased (turnOf (z .slots) (pairAt z t s o) (objectAt t o)) ≡ false) × (saysWait (turnOf (z .slots) (pairAt z t s o) (objectAt t o)) ≡ false))
           ↔ (difference (pairAt z t s o .private .0) (objectAt t o .local .0) ≡ 1)
       now = turn-now (z .slots) (difference (pairAt z t s o .private .0) (objectAt t o .local .0))
 
-      tells : Passes (rulesOfRelease z t s o) → ReleaseFits z t s o
+      tells : NoneHolds (rulesOfRelease z t s o) → ReleaseFits z t s o
       tells (slot, (live, (object, (declared, (held, (early, rest)))))) =
           record {
             slot = leb-false (z .slots) s slot;
@@ -105,17 +105,17 @@ module _ (z : Size) (t : State) where
             turn = now .0 (held, early);
           }
 
-      passes : ReleaseFits z t s o → Passes (rulesOfRelease z t s o)
+      passes : ReleaseFits z t s o → NoneHolds (rulesOfRelease z t s o)
       passes f = (
         lt-leb (z .slots) s (f .slot),
         (ap not (f .live), (lt-leb (z .objects) o (f .object), (ap not (f .declared), (now .1 (f .turn) .0, (now .1 (f .turn) .1, tt))))),
       )
 
   -- a call has the rules of a release, and two more
-  call-fits : (s o kind : ℕ) → Passes (rulesOfCall z t s o kind) ↔ CallFits z t s o kind
+  call-fits : (s o kind : ℕ) → NoneHolds (rulesOfCall z t s o kind) ↔ CallFits z t s o kind
   call-fits s o kind = (tells, λ f. with-two f (release-fits s o .1 (f .release)))
     where
-      tells : Passes (rulesOfCall z t s o kind) → CallFits z t s o kind
+      tells : NoneHolds (rulesOfCall z t s o kind) → CallFits z t s o kind
       tells (slot, (live, (object, (declared, (known, (clean, turn)))))) =
           record {
             release = release-fits s o .0 (slot, (live, (object, (declared, turn))));
@@ -123,13 +123,13 @@ module _ (z : Size) (t : State) where
             unspoiled = none-spoiled s .0 clean;
           }
 
-      with-two : CallFits z t s o kind → Passes (rulesOfRelease z t s o) → Passes (rulesOfCall z t s o kind)
+      with-two : CallFits z t s o kind → NoneHolds (rulesOfRelease z t s o) → NoneHolds (rulesOfCall z t s o kind)
       with-two f (slot, (live, (object, (declared, turn)))) =
           (slot, (live, (object, (declared, (lt-leb 4 kind (f .known), (none-spoiled s .1 (f .unspoiled), turn))))))
 
   -- the rules of a rollback, of the record of either end
   end-fits : (rollback : Bool) (s tick : ℕ) (buffer : List ℕ)
-      → Passes (endRules z true s (liveAt t s) (doomed z t s) (unmet z t s) (ltb (length buffer) (length (endRecord z rollback s tick t))))
+      → NoneHolds (endRules z true s (liveAt t s) (doomed z t s) (unmet z t s) (ltb (length buffer) (length (endRecord z rollback s tick t))))
       ↔ EndFits z rollback t s tick buffer
   end-fits rollback s tick buffer = (tells, passes)
     where
@@ -139,7 +139,7 @@ module _ (z : Size) (t : State) where
       bytes : ℕ
       bytes = length (endRecord z rollback s tick t)
 
-      tells : Passes (endRules z true s (liveAt t s) (doomed z t s) (unmet z t s) (ltb (length buffer) bytes)) → EndFits z rollback t s tick buffer
+      tells : NoneHolds (endRules z true s (liveAt t s) (doomed z t s) (unmet z t s) (ltb (length buffer) bytes)) → EndFits z rollback t s tick buffer
       tells (slot, (live, (met, (room, none)))) =
           record {
             slot = leb-false (z .slots) s slot;
@@ -148,22 +148,22 @@ module _ (z : Size) (t : State) where
             room = ltb-false (length buffer) bytes room;
           }
 
-      passes : EndFits z rollback t s tick buffer → Passes (endRules z true s (liveAt t s) (doomed z t s) (unmet z t s) (ltb (length buffer) bytes))
+      passes : EndFits z rollback t s tick buffer → NoneHolds (endRules z true s (liveAt t s) (doomed z t s) (unmet z t s) (ltb (length buffer) bytes))
       passes f =
           let met = none-any (z .objects) missed (λ q below. need-met (pairAt z t s q) (objectAt t q) .1 (f .need q below)) in
           (lt-leb (z .slots) s (f .slot), (ap not (f .live), (met, (le-ltb (length buffer) bytes (f .room), tt))))
 
   -- a commit has one more
-  commit-fits : (s tick : ℕ) (buffer : List ℕ) → Passes (rulesOfEnd z t false s tick buffer) ↔ CommitFits z t s tick buffer
+  commit-fits : (s tick : ℕ) (buffer : List ℕ) → NoneHolds (rulesOfEnd z t false s tick buffer) ↔ CommitFits z t s tick buffer
   commit-fits s tick buffer = (tells, λ f. with-one f (end-fits false s tick buffer .1 (f .end)))
     where
-      tells : Passes (rulesOfEnd z t false s tick buffer) → CommitFits z t s tick buffer
+      tells : NoneHolds (rulesOfEnd z t false s tick buffer) → CommitFits z t s tick buffer
       tells (slot, (live, (clean, rest))) =
           record { end = end-fits false s tick buffer .0 (slot, (live, rest)); unspoiled = none-spoiled s .0 clean }
 
       with-one : CommitFits z t s tick buffer
-          → Passes (endRules z true s (liveAt t s) (doomed z t s) (unmet z t s) (ltb (length buffer) (length (endRecord z false s tick t))))
-          → Passes (rulesOfEnd z t false s tick buffer)
+          → NoneHolds (endRules z true s (liveAt t s) (doomed z t s) (unmet z t s) (ltb (length buffer) (length (endRecord z false s tick t))))
+          → NoneHolds (rulesOfEnd z t false s tick buffer)
       with-one f (slot, (live, rest)) = (slot, (live, (none-spoiled s .1 (f .unspoiled), rest)))
 
   -- each event is accepted exactly when it fits

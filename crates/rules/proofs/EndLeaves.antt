@@ -7,7 +7,7 @@ use mathlib.Core.Path.{_≡_, refl, sym, ap, _∙_}
 use borrow.Author.Tests.{eq-eqb, ne-eqb}
 use Rattle.answers.specs.Order.{pick}
 use Rattle.counters.specs.Sizes.{Size}
-use Rattle.objects.specs.Places.{noPair, ended, restores, restored, spoiledPair}
+use Rattle.objects.specs.Places.{noPair, settled, restores, restored, spoiledPair}
 use Rattle.objects.specs.declared.Object.{Object}
 use Rattle.objects.specs.declared.Pair.{Pair}
 use Rattle.rules.specs.Tables.{State, objectAt, liveAt, pairAt}
@@ -19,7 +19,7 @@ use Rattle.rules.proofs.Accepted.{end-accepted}
 use Rattle.rules.proofs.Ended.{Ended, endedAt, end-effect}
 
 -- both ends: the pairs of the slot are cleared and it is no longer live; on an object that it did not declare nothing changes;
--- on one that it declared global stays, terminal becomes private and local is as `ended` says
+-- on one that it declared global stays, terminal becomes private and local is as `settled` says
 pub record EndLeaves (z : Size) (s : ℕ) (t u : State) : Type 0 where
   pub own : (q : ℕ) → q < z .objects → pairAt z u s q ≡ noPair
   pub own-live : liveAt u s ≡ false
@@ -28,7 +28,7 @@ pub record EndLeaves (z : Size) (s : ℕ) (t u : State) : Type 0 where
   pub global : (q : ℕ) → q < z .objects → objectAt u q .global ≡ objectAt t q .global
   pub terminal : (q : ℕ) → q < z .objects → pairAt z t s q .declared ≡ true → objectAt u q .terminal ≡ pairAt z t s q .private
   pub local : (q : ℕ) → q < z .objects → pairAt z t s q .declared ≡ true
-      → objectAt u q .local ≡ ended (z .slots) (pairAt z t s q) (objectAt t q) .local
+      → objectAt u q .local ≡ settled (z .slots) (pairAt z t s q) (objectAt t q) .local
 
 -- a commit: no pair of another slot and no word
 pub record CommitLeaves (z : Size) (s : ℕ) (t u : State) : Type 0 where
@@ -56,7 +56,7 @@ pub record RollbackLeaves (z : Size) (s : ℕ) (t u : State) : Type 0 where
       → objectAt u q .word ≡ pick (restores (pairAt z t s q)) (pairAt z t s q .saved) (objectAt t q .word)
 
 local-alike : (slots : ℕ) (pair : Pair) (object : Object) (back : Bool)
-    → ended slots pair (pick back (restored pair object) object) .local ≡ ended slots pair object .local
+    → settled slots pair (pick back (restored pair object) object) .local ≡ settled slots pair object .local
 local-alike slots pair object true = refl
 local-alike slots pair object false = refl
 
@@ -70,9 +70,9 @@ module _ (z : Size) (rollback : Bool) (pair : Pair) (object : Object) where
   ended-terminal : pair .declared ≡ true → endedAt z rollback pair object .terminal ≡ pair .private
   ended-terminal declared = rw declared
 
-  ended-local : pair .declared ≡ true → endedAt z rollback pair object .local ≡ ended (z .slots) pair object .local
+  ended-local : pair .declared ≡ true → endedAt z rollback pair object .local ≡ settled (z .slots) pair object .local
   ended-local declared =
-      ap (λ (d : Bool). pick d (ended (z .slots) pair (pick (rollback && restores pair) (restored pair object) object)) object .local) declared
+      ap (λ (d : Bool). pick d (settled (z .slots) pair (pick (rollback && restores pair) (restored pair object) object)) object .local) declared
       ∙ local-alike (z .slots) pair object (rollback && restores pair)
 
 committed-word : (z : Size) (pair : Pair) (object : Object) → endedAt z false pair object .word ≡ object .word

@@ -8,7 +8,7 @@ use lib.ListN.{getD}
 use borrow.Author.Tests.{eqb-true, eq-eqb, ne-eqb}
 use Rattle.answers.specs.Order.{pick}
 use Rattle.counters.specs.Sizes.{Size}
-use Rattle.objects.specs.Places.{noPair, ended, restores, restored, spoiledPair}
+use Rattle.objects.specs.Places.{noPair, settled, restores, restored, spoiledPair}
 use Rattle.objects.specs.declared.Object.{Object}
 use Rattle.objects.specs.declared.Pair.{Pair}
 use Rattle.rules.specs.Tables.{State, noObject, objectAt, liveAt, pairAt, withObject}
@@ -22,7 +22,7 @@ use Rattle.rules.proofs.Restored.{Underway, hasCalled, restore-keeps, r
 
 -- what an end makes of an object: a rollback restores its word first, where it restores it
 abbrev pub endedAt : Size → Bool → Pair → Object → Object
-endedAt z rollback pair object = pick (pair .declared) (ended (z .slots) pair (pick (rollback && restores pair) (restored pair object) object)) object
+endedAt z rollback pair object = pick (pair .declared) (settled (z .slots) pair (pick (rollback && restores pair) (restored pair object) object)) object
 
 -- and of a pair of another slot on an object: a rollback that restores the object spoils it
 abbrev pub spoils : Size → Bool → State → ℕ → ℕ → ℕ → Bool
@@ -33,19 +33,19 @@ underway-then first then =
     record { sized = then .sized; live = then .live ∙ first .live; own = λ q below. then .own q below ∙ first .own q below }
 
 committed-there : (slots : ℕ) (pair : Pair) (x : Object) (here : Bool)
-    → pick (pair .declared && here) (ended slots pair x) x ≡ pick here (pick (pair .declared) (ended slots pair x) x) x
+    → pick (pair .declared && here) (settled slots pair x) x ≡ pick here (pick (pair .declared) (settled slots pair x) x) x
 committed-there slots pair x true = rw (and-true (pair .declared))
 committed-there slots pair x false = rw (and-false (pair .declared))
 
 rolled-back-there : (slots : ℕ) (pair : Pair) (x : Object) (here : Bool)
-    → pick (pair .declared && here) (ended slots pair (pick (restores pair && here) (restored pair x) x)) (pick (restores pair && here) (restored pair x) x)
-    ≡ pick here (pick (pair .declared) (ended slots pair (pick (restores pair) (restored pair x) x)) x) x
+    → pick (pair .declared && here) (settled slots pair (pick (restores pair && here) (restored pair x) x)) (pick (restores pair && here) (restored pair x) x)
+    ≡ pick here (pick (pair .declared) (settled slots pair (pick (restores pair) (restored pair x) x)) x) x
 rolled-back-there slots pair x false = rw (and-false (pair .declared), and-false (restores pair))
 rolled-back-there slots pair x true = rw (and-true (pair .declared), and-true (restores pair)) (by (pair .declared) refl)
   where
     by : (d : Bool) → pair .declared ≡ d
-        → pick (pair .declared) (ended slots pair (pick (restores pair) (restored pair x) x)) (pick (restores pair) (restored pair x) x)
-        ≡ pick (pair .declared) (ended slots pair (pick (restores pair) (restored pair x) x)) x
+        → pick (pair .declared) (settled slots pair (pick (restores pair) (restored pair x) x)) (pick (restores pair) (restored pair x) x)
+        ≡ pick (pair .declared) (settled slots pair (pick (restores pair) (restored pair x) x)) x
     by true e = rw e
     by false e = rw e
 
@@ -53,20 +53,20 @@ module _ (z : Size) (s o : ℕ) (inside : o < z .objects) (t : State) (sized : S
   one-keeps : Underway z s t (endOne z s o t)
   one-keeps =
       pick-when (Underway z s t) (pairAt z t s o .declared)
-      (λ e. record { sized = sized-object z t sized o (ended (z .slots) (pairAt z t s o) (objectAt t o)); live = refl; own = λ q below. refl })
+      (λ e. record { sized = sized-object z t sized o (settled (z .slots) (pairAt z t s o) (objectAt t o)); live = refl; own = λ q below. refl })
       (λ e. record { sized = sized; live = refl; own = λ q below. refl })
 
   one-object : (q : ℕ)
       → objectAt (endOne z s o t) q
-      ≡ pick (pairAt z t s o .declared && eqb q o) (ended (z .slots) (pairAt z t s o) (objectAt t q)) (objectAt t q)
+      ≡ pick (pairAt z t s o .declared && eqb q o) (settled (z .slots) (pairAt z t s o) (objectAt t q)) (objectAt t q)
   one-object q =
       let pair : Pair = pairAt z t s o in
-      pick-seen (λ u. objectAt u q) (pair .declared) (withObject t o (ended (z .slots) pair (objectAt t o))) t
+      pick-seen (λ u. objectAt u q) (pair .declared) (withObject t o (settled (z .slots) pair (objectAt t o))) t
       ∙ rw (
-        object-after z t sized o q (ended (z .slots) pair (objectAt t o)) inside,
-        pick-moved (λ k. ended (z .slots) pair (objectAt t k)) (objectAt t q) (eqb q o) q o (eqb-true q o),
+        object-after z t sized o q (settled (z .slots) pair (objectAt t o)) inside,
+        pick-moved (λ k. settled (z .slots) pair (objectAt t k)) (objectAt t q) (eqb q o) q o (eqb-true q o),
       )
-      (pick-both (pair .declared) (eqb q o) (ended (z .slots) pair (objectAt t q)) (objectAt t q))
+      (pick-both (pair .declared) (eqb q o) (settled (z .slots) pair (objectAt t q)) (objectAt t q))
 
   one-pairs : endOne z s o t .pairs ≡ t .pairs
   one-pairs = pick-when (λ (u : State). u .pairs ≡ t .pairs) (pairAt z t s o .declared) (λ e. refl) (λ e. refl)

@@ -9,7 +9,7 @@ use Rattle.answers.specs.Numbers.{numberOf}
 use Rattle.answers.specs.Order.{Rule, decide}
 use Rattle.answers.specs.declared.Refusal.{Refusal}
 use Rattle.answers.specs.declared.Refusal.the-variants.{BadSlot, BadObject, BadList, Busy, Idle, NotDeclared, BadCall, Released, Doomed, Wait, NoRoom, BadRecord}
-use Rattle.answers.proofs.Deciding.{Passes, passed}
+use Rattle.answers.proofs.Deciding.{NoneHolds, passed}
 use Rattle.counters.specs.Sizes.{Size}
 use Rattle.record_layout.specs.Declarations.{Declaration, declarationsOf}
 use Rattle.rules.specs.Tables.{State}
@@ -23,16 +23,16 @@ pub record FirstOf (rules : List Rule) (number : ℕ) : Type 0 where
   pub rule : Rule
   pub later : List Rule
   pub all : rules ≡ earlier ++ rule ∷ later
-  pub passes : Passes earlier
+  pub passes : NoneHolds earlier
   pub holds : rule .holds ≡ true
   pub gives : numberOf (rule .refusal) ≡ number
 
 -- every list of rules passes, or one rule is the first that holds
-one-first : (rules : List Rule) → Passes rules ⊎ ((number : ℕ) × FirstOf rules number)
+one-first : (rules : List Rule) → NoneHolds rules ⊎ ((number : ℕ) × FirstOf rules number)
 one-first [] = inl tt
 one-first (rule ∷ rules) = by (rule .holds) refl (one-first rules)
   where
-    behind : rule .holds ≡ false → Passes rules ⊎ ((number : ℕ) × FirstOf rules number) → Passes (rule ∷ rules) ⊎ ((number : ℕ) × FirstOf (rule ∷ rules) number)
+    behind : rule .holds ≡ false → NoneHolds rules ⊎ ((number : ℕ) × FirstOf rules number) → NoneHolds (rule ∷ rules) ⊎ ((number : ℕ) × FirstOf (rule ∷ rules) number)
     behind e (inl p) = inl (e, p)
     behind e (inr found) =
         let first : FirstOf rules (found .0) = found .1 in
@@ -49,13 +49,13 @@ one-first (rule ∷ rules) = by (rule .holds) refl (one-first rules)
           },
         )
 
-    by : (t : Bool) → rule .holds ≡ t → Passes rules ⊎ ((number : ℕ) × FirstOf rules number) → Passes (rule ∷ rules) ⊎ ((number : ℕ) × FirstOf (rule ∷ rules) number)
+    by : (t : Bool) → rule .holds ≡ t → NoneHolds rules ⊎ ((number : ℕ) × FirstOf rules number) → NoneHolds (rule ∷ rules) ⊎ ((number : ℕ) × FirstOf (rule ∷ rules) number)
     by true e rest = inr (numberOf (rule .refusal), record { earlier = []; rule = rule; later = rules; all = refl; passes = tt; holds = e; gives = refl })
     by false e rest = behind e rest
 
 -- the first rule that holds decides
 first-decides : {A : Type 0} (earlier : List Rule) (rule : Rule) (later : List Rule) (refused : Refusal → A) (accepted : A)
-    → Passes earlier → rule .holds ≡ true → decide (earlier ++ rule ∷ later) refused accepted ≡ refused (rule .refusal)
+    → NoneHolds earlier → rule .holds ≡ true → decide (earlier ++ rule ∷ later) refused accepted ≡ refused (rule .refusal)
 first-decides [] rule later refused accepted passes holds = rw holds
 first-decides (one ∷ earlier) rule later refused accepted passes holds =
     rw (passes .0) (first-decides earlier rule later refused accepted (passes .1) holds)
@@ -81,7 +81,7 @@ numbers rules = map (λ rule. numberOf (rule .refusal)) rules
 -- the number that comes back, by rules whose numbers stand in this order
 pub record Exact (rules : List Rule) (order : List ℕ) (number : ℕ) : Type 0 where
   pub in-order : numbers rules ≡ order
-  pub accepts : (number ≡ 0) ↔ Passes rules
+  pub accepts : (number ≡ 0) ↔ NoneHolds rules
   pub refuses : (n : ℕ) → n ≢ 0 → (number ≡ n) ↔ FirstOf rules n
 
 -- of any list of rules, where what is given back has the number of the refusal, and 0 where it is accepted
@@ -102,14 +102,14 @@ decided-exactly number rules order refused accepted in-order tells zero =
         ∙ tells (f .rule .refusal)
         ∙ f .gives
 
-    all-pass : Passes rules → number (decide rules refused accepted) ≡ 0
+    all-pass : NoneHolds rules → number (decide rules refused accepted) ≡ 0
     all-pass p = ap number (passed rules refused accepted p) ∙ zero
 
-    accepts : Passes rules ⊎ ((n : ℕ) × FirstOf rules n) → number (decide rules refused accepted) ≡ 0 → Passes rules
+    accepts : NoneHolds rules ⊎ ((n : ℕ) × FirstOf rules n) → number (decide rules refused accepted) ≡ 0 → NoneHolds rules
     accepts (inl p) e = p
     accepts (inr f) e = absurd (number-not-zero (f .1 .rule .refusal) (f .1 .gives ∙ sym (given (f .0) (f .1)) ∙ e))
 
-    refuses : (n : ℕ) → n ≢ 0 → Passes rules ⊎ ((n : ℕ) × FirstOf rules n) → number (decide rules refused accepted) ≡ n → FirstOf rules n
+    refuses : (n : ℕ) → n ≢ 0 → NoneHolds rules ⊎ ((n : ℕ) × FirstOf rules n) → number (decide rules refused accepted) ≡ n → FirstOf rules n
     refuses n other (inl p) e = absurd (other (sym e ∙ all-pass p))
     refuses n other (inr f) e = rw (sym (given (f .0) (f .1)) ∙ e) at (f .1)
 
@@ -174,7 +174,7 @@ module _ (z : Size) (t : State) where
   release-comes s o done = passed (rulesOfRelease z t s o) (unchanged t) (released z t s o) (release-exactly s o .accepts .0 done)
 
   end-passes : (rollback : Bool) (s tick : ℕ) (buffer : List ℕ) → endStep z rollback t s tick buffer .reply .number ≡ 0
-      → Passes (rulesOfEnd z t rollback s tick buffer)
+      → NoneHolds (rulesOfEnd z t rollback s tick buffer)
   end-passes false s tick buffer done = commit-exactly s tick buffer .accepts .0 done
   end-passes true s tick buffer done = rollback-exactly s tick buffer .accepts .0 done
 

@@ -7,7 +7,7 @@ use mathlib.Core.Path.{_≡_, refl}
 use native.Mathlib.Omega.{arith}
 use lib.Dec.{leb, ltb, eqb}
 use borrow.Author.Tests.{leb-false, lt-leb, ltb-false, le-ltb, eqb-true, eqb-false, eq-eqb, ne-eqb, not-false}
-use Rattle.answers.proofs.Deciding.{Passes}
+use Rattle.answers.proofs.Deciding.{NoneHolds}
 use Rattle.counters.specs.Sizes.{Size}
 use Rattle.counters.specs.Versions.{next, turnAt, terminalNeed}
 use Rattle.record_layout.specs.Declarations.{Declaration}
@@ -28,7 +28,7 @@ Rises z least [] = Unit {0}
 Rises z least (declaration ∷ rest) = RisesFirst z least (declaration .object) (Rises z (declaration .object + 1) rest)
 
 -- their rules pass exactly where they rise
-pub declarations-rise : (z : Size) (least : ℕ) (declarations : List Declaration) → Passes (declarationRules z least declarations) ↔ Rises z least declarations
+pub declarations-rise : (z : Size) (least : ℕ) (declarations : List Declaration) → NoneHolds (declarationRules z least declarations) ↔ Rises z least declarations
 declarations-rise z least [] = (λ p. tt, λ r. tt)
 declarations-rise z least (declaration ∷ rest) =
     let o : ℕ = declaration .object in

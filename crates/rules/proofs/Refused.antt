@@ -7,7 +7,7 @@ use mathlib.Core.Path.{_≡_, refl, ap, _∙_}
 use Rattle.answers.specs.Order.{Rule, decide}
 use Rattle.answers.specs.declared.Refusal.{Refusal}
 use Rattle.answers.specs.declared.Refusal.the-variants.{BadRecord}
-use Rattle.answers.proofs.Deciding.{Accepts, Refuses, decided}
+use Rattle.answers.proofs.Deciding.{Accepts, OneHolds, decided}
 use Rattle.counters.specs.Sizes.{Size}
 use Rattle.record_layout.specs.Reading.{reading, listing}
 use Rattle.record_layout.specs.declared.fields.Event.{Event}
@@ -40,7 +40,7 @@ refusing : {A : Type 0} (P : A → Type 0) (number : A → ℕ) (rules : List Ru
     → number (decide rules refused accepted) ≢ 0 → P (decide rules refused accepted)
 refusing P number rules refused accepted zero each other = by (decided rules)
   where
-    by : Accepts rules ⊎ Refuses rules → P (decide rules refused accepted)
+    by : Accepts rules ⊎ OneHolds rules → P (decide rules refused accepted)
     by (inl a) = absurd (other (ap number (a .gives refused accepted) ∙ zero))
     by (inr r) = rw (r .gives refused accepted) (each (r .refusal))
 

@@ -9,6 +9,7 @@ use Rattle.answers.specs.Order.{Rule}
 use Rattle.counters.specs.Sizes.{Size}
 use Rattle.kinds.specs.Kinds.{acted}
 use Rattle.kinds.specs.declared.Acted.{Acted}
+use Rattle.record_layout.specs.Declarations.{declarationsOf}
 use Rattle.rules.specs.Tables.{State, objectAt, liveAt, pairAt}
 use Rattle.rules.specs.Refusing.{doomed, unmet, startRules, callRules, releaseRules, endRules}
 use Rattle.rules.specs.Effects.{startEffect, callEffect, releaseEffect, endEffect, endRecord}
@@ -20,10 +21,10 @@ effected t value = record { tables = t; reply = accepted value }
 
 module _ (z : Size) (t : State) where
   abbrev pub rulesOfStart : ℕ → List ℕ → List Rule
-  rulesOfStart s list = startRules z s (liveAt t s) list
+  rulesOfStart s list = startRules z s (liveAt t s) (length list) (declarationsOf list)
 
   abbrev pub started : ℕ → List ℕ → Stepping
-  started s list = effected (startEffect z s list t) 0
+  started s list = effected (startEffect z s (declarationsOf list) t) 0
 
   abbrev pub rulesOfCall : ℕ → ℕ → ℕ → List Rule
   rulesOfCall s o kind = callRules z s o kind (liveAt t s) (doomed z t s) (pairAt z t s o) (objectAt t o)

@@ -111,7 +111,7 @@ pub record Started (z : Size) (s : ℕ) (declarations : List Declaration) (t u :
 
 -- the effect of a start, place by place
 pub start-effect : (z : Size) (t : State) (s : ℕ) (list : List ℕ) → Sized z t → s < z .slots → Rises z 0 (declarationsOf list)
-    → Started z s (declarationsOf list) t (startEffect z s list t)
+    → Started z s (declarationsOf list) t (startEffect z s (declarationsOf list) t)
 start-effect z t s list sized slot rises =
     record {
       sized = sized-live z all (declared-sized z s declarations cleared empty) s true;

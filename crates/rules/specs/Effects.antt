@@ -6,11 +6,11 @@ use lib.Dec.{eqb}
 use Rattle.answers.specs.Order.{pick}
 use Rattle.counters.specs.Sizes.{Size}
 use Rattle.record_layout.specs.Bytes.{wordBytes}
-use Rattle.record_layout.specs.Declarations.{Declaration, declarationsOf}
+use Rattle.record_layout.specs.Declarations.{Declaration}
 use Rattle.record_layout.specs.Fields.{recordOf}
 use Rattle.record_layout.specs.declared.fields.Fields.{Fields}
 use Rattle.record_layout.specs.declared.fields.Fields
-use Rattle.objects.specs.Places.{noPair, givenOut, declaredWith, calledObject, calledPair, letGo, ended, restores, restored, spoiledPair}
+use Rattle.objects.specs.Places.{noPair, givenOut, declaredWith, calledObject, calledPair, letGo, settled, restores, restored, spoiledPair}
 use Rattle.objects.specs.declared.Object.{Object}
 use Rattle.objects.specs.declared.Pair.{Pair}
 use Rattle.rules.specs.Tables.{State, objectAt, liveAt, pairAt, withObject, withLive, withPair}
@@ -31,8 +31,8 @@ declareAll z s [] t = t
 declareAll z s (declaration ∷ rest) t = declareAll z s rest (declareOne z s (declaration .object) (declaration .supremum) t)
 
 -- R12: a start
-abbrev pub startEffect : Size → ℕ → List ℕ → State → State
-startEffect z s list t = withLive (declareAll z s (declarationsOf list) (clearSlot z s t)) s true
+abbrev pub startEffect : Size → ℕ → List Declaration → State → State
+startEffect z s declarations t = withLive (declareAll z s declarations (clearSlot z s t)) s true
 
 -- R13: a call, given the word that its kind leaves
 abbrev pub callEffect : Size → ℕ → ℕ → ℕ → State → State
@@ -58,7 +58,7 @@ restoreOne z s o t = pick (restores (pairAt z t s o)) (spoilOthers z s o (withOb
 
 -- R16: the versions of a declared object move
 abbrev pub endOne : Size → ℕ → ℕ → State → State
-endOne z s o t = pick (pairAt z t s o .declared) (withObject t o (ended (z .slots) (pairAt z t s o) (objectAt t o))) t
+endOne z s o t = pick (pairAt z t s o .declared) (withObject t o (settled (z .slots) (pairAt z t s o) (objectAt t o))) t
 
 -- R16, R17: a rollback restores an object before it ends it
 abbrev pub endTurn : Size → Bool → ℕ → ℕ → State → State

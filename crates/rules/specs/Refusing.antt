@@ -2,13 +2,12 @@
 use Prim.Native.Nat.{ℕ, _+_, _*_, _%_}
 use mathlib.Core.Bool.{Bool, not, _&&_, _||_}
 use mathlib.Core.List.{List, [], _∷_, _++_}
-use lib.ListN.{length}
 use lib.Dec.{leb, ltb, eqb}
 use Rattle.answers.specs.Order.{Rule, _when_, pick}
 use Rattle.answers.specs.declared.Refusal.the-variants.{BadSlot, BadObject, BadList, Busy, Idle, NotDeclared, BadCall, Released, Doomed, Wait, NoRoom}
 use Rattle.counters.specs.Sizes.{Size}
 use Rattle.counters.specs.Versions.{terminalNeed}
-use Rattle.record_layout.specs.Declarations.{Declaration, declarationsOf}
+use Rattle.record_layout.specs.Declarations.{Declaration}
 use Rattle.objects.specs.Places.{turnOf, saysReleased, saysWait}
 use Rattle.objects.specs.declared.Object.{Object}
 use Rattle.objects.specs.declared.Pair.{Pair}
@@ -27,8 +26,8 @@ abbrev pub unmet : Size → State → ℕ → Bool
 unmet z t s = anyBelow (z .objects) (λ o. misses (pairAt z t s o) (objectAt t o))
 
 -- R22: the list's bytes are none, of odd number, or too many
-abbrev pub badLength : Size → List ℕ → Bool
-badLength z list = eqb (length list) 0 || (eqb (length list % 2) 1 || ltb (2 * z .objects) (length list))
+abbrev pub badLength : Size → ℕ → Bool
+badLength z bytes = eqb bytes 0 || (eqb (bytes % 2) 1 || ltb (2 * z .objects) bytes)
 
 -- R22: of each declaration in turn, the object too large, or not above the one before
 abbrev pub declarationRules : Size → ℕ → List Declaration → List Rule
@@ -39,12 +38,12 @@ declarationRules z least (declaration ∷ rest) =
     ∷ declarationRules z (declaration .object + 1) rest
 
 -- R21: a start
-abbrev pub startRules : Size → ℕ → Bool → List ℕ → List Rule
-startRules z slot live list =
+abbrev pub startRules : Size → ℕ → Bool → ℕ → List Declaration → List Rule
+startRules z slot live bytes declarations =
     BadSlot when leb (z .slots) slot
     ∷ Busy when live
-    ∷ BadList when badLength z list
-    ∷ declarationRules z 0 (declarationsOf list)
+    ∷ BadList when badLength z bytes
+    ∷ declarationRules z 0 declarations
 
 -- R21: what a call and a release begin with, whether there is such a pair
 abbrev pub placeRules : Size → ℕ → ℕ → Bool → Pair → List Rule

@@ -9,6 +9,7 @@ use Rattle.answers.specs.Order.{decide}
 use Rattle.answers.specs.declared.Refusal.{Refusal}
 use Rattle.answers.specs.declared.Refusal.the-variants.{BadRecord}
 use Rattle.counters.specs.Sizes.{Size}
+use Rattle.record_layout.specs.Declarations.{Declaration, declarationsOf}
 use Rattle.record_layout.specs.Reading.{reading, listing}
 use Rattle.record_layout.specs.declared.fields.Event.{Event}
 use Rattle.record_layout.specs.declared.fields.Event
@@ -43,7 +44,8 @@ beside buffer stepping = record { tables = stepping .tables; reply = stepping .r
 
 abbrev pub startStep : Size → State → ℕ → List ℕ → Stepping
 startStep z t s list =
-    decide (startRules z s (liveAt t s) list) (unchanged t) (record { tables = startEffect z s list t; reply = accepted 0 })
+    let declarations : List Declaration = declarationsOf list in
+    decide (startRules z s (liveAt t s) (length list) declarations) (unchanged t) (record { tables = startEffect z s declarations t; reply = accepted 0 })
 
 abbrev pub callStep : Size → State → ℕ → ℕ → ℕ → ℕ → Stepping
 callStep z t s o kind argument =

@@ -11,10 +11,10 @@ use borrow.Author.Tests.{le-leb, lt-ltb, eq-eqb}
 use Rattle.counters.specs.Sizes.{Size}
 use Rattle.counters.specs.Versions.{turnover}
 use Rattle.record_layout.specs.Bytes.{halfBytes, wordBytes, wordOf}
-use Rattle.record_layout.specs.Beside.{endBeside}
+use Rattle.record_layout.specs.Serving.Beside.{endBeside}
 use Rattle.record_layout.specs.Entries.{Entry, entriesOf, risingFrom}
 use Rattle.record_layout.specs.Fields.{recordOf}
-use Rattle.record_layout.specs.Fitting.{Fit}
+use Rattle.record_layout.specs.Serving.Fitting.{Fit}
 use Rattle.record_layout.specs.Kinds.{shapeOf, bodyLimit}
 use Rattle.record_layout.specs.Writing.{readable}
 use Rattle.record_layout.specs.declared.kind.Kind.the-variants.{Ended}

@@ -12,7 +12,7 @@ use Rattle.answers.specs.Order.{pick}
 use Rattle.counters.specs.Sizes.{Size}
 use Rattle.counters.specs.Versions.{turnover}
 use Rattle.counters.specs.declared.Version.{Version}
-use Rattle.objects.specs.Places.{noPair, turnOf, saysReleased, ended, restores, spoiledPair}
+use Rattle.objects.specs.Places.{noPair, turnOf, saysReleased, settled, restores, spoiledPair}
 use Rattle.objects.specs.declared.Pair.{Pair}
 use Rattle.rules.specs.Tables.{State, objectAt, liveAt, pairAt}
 use Rattle.runs.specs.Histories.{History, Transaction, Status, Committed, RolledBack, isLive, isCommitted, livesIn, withEnd, statusOf}
@@ -39,7 +39,7 @@ committed-only false e = refl
 pub record EndsAt (z : Size) (rollback : Bool) (t u : State) (s q : ℕ) : Type 0 where
   pub word : objectAt u q .word ≡ pick (rollback && restores (pairAt z t s q)) (pairAt z t s q .saved) (objectAt t q .word)
   pub global : objectAt u q .global ≡ objectAt t q .global
-  pub local : objectAt u q .local ≡ ended (z .slots) (pairAt z t s q) (objectAt t q) .local
+  pub local : objectAt u q .local ≡ settled (z .slots) (pairAt z t s q) (objectAt t q) .local
   pub terminal : objectAt u q .terminal ≡ pairAt z t s q .private
   pub pairs : (r : ℕ) → r ≢ s
       → pairAt z u r q
@@ -113,7 +113,7 @@ module _ (z : Size) (within : Within z) (words : List ℕ) (first : ℕ) (t u : 
   counted : declarers q (before ++ next ∷ behind) ≡ declarers q (before ++ own ∷ behind)
   counted = omega (arith, declarers-append q before (next ∷ behind), declarers-append q before (own ∷ behind))
 
-  -- a pair that is zero stays zero, and before the transaction every declarer has ended
+  -- a pair that is zero stays zero, and before the transaction every declarer has settled
   bare : (r : ℕ) → r ≢ own .slot → pairAt z t r q ≡ noPair → pairAt z u r q ≡ noPair
   bare r apart zero = ends .pairs r apart ∙ rw (zero, and-false (liveAt t r), and-false (rollback && restores pair))
 

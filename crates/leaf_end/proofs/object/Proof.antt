@@ -2,7 +2,7 @@
 use mathlib.Core.Path.{ap, _∙_}
 use borrow.Author.Needs.{needs}
 use borrow.Author.Tests.{not-true, not-false}
-use Rattle.objects.specs.Places.{ended}
+use Rattle.objects.specs.Places.{settled}
 use Rattle.objects.specs.declared.Object.{Object}
 use Rattle.leaf_end.proofs.object.Statement.{statement}
 use Rattle.leaf_end.proofs.object.Tie as tie
@@ -16,7 +16,7 @@ returns-2 c =
     let declared = back .before .before in
     let a = declared .before .before .args in
     rw (← back .before .puts-back .ensures, back .if2 .taken, not-false (a .pair .declared) (declared .if1 .left))
-    (c .end .ensures ∙ ap (λ (x : Object). ended (a .slots) (a .pair) x) (c .before .restore .ensures))
+    (c .end .ensures ∙ ap (λ (x : Object). settled (a .slots) (a .pair) x) (c .before .restore .ensures))
 
 returns-3 : tie.Need-returns-3
 returns-3 c =

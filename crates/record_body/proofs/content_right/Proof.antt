@@ -1,9 +1,10 @@
 -- `record_body::content_right` meets its promise.
 use borrow.Author.Needs.{needs}
 use Prim.Native.Nat.{_≤_}
-use mathlib.Core.Path.{_≡_, subst}
+use mathlib.Core.Path.{_≡_}
 use native.Mathlib.Omega.{arith}
 use lib.ListN.{length}
+use Rattle.record_layout.proofs.Lengths.{head-of}
 use Rattle.record_layout.specs.Kinds.{shapeOf}
 use Rattle.record_layout.specs.declared.kind.Kind.{Kind}
 use Rattle.record_body.proofs.content_right.Statement.{statement}
@@ -11,7 +12,7 @@ use Rattle.record_body.proofs.content_right.Tie as tie
 
 -- the head of the kind that is told is there
 headed : (c : tie.After-shared-slice-known) {k : Kind} → c .before .args .kind ≡ k → shapeOf k .head ≤ length (c .before .args .b .now)
-headed c told = subst (λ (x : Kind). shapeOf x .head ≤ length (c .before .args .b .now)) told (c .before .pre)
+headed c told = head-of (c .before .args .b .now) told (c .before .pre)
 
 byte-requires : tie.Need-byte-requires
 byte-requires c κs = omega (arith, headed (c .before .before) (c .enum-told3 .given .1))

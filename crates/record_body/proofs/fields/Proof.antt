@@ -1,8 +1,9 @@
 -- `record_body::fields` meets its promise.
 use borrow.Author.Needs.{needs}
 use Prim.Native.Nat.{_≤_}
-use mathlib.Core.Path.{_≡_, subst}
+use mathlib.Core.Path.{_≡_}
 use lib.ListN.{length}
+use Rattle.record_layout.proofs.Lengths.{head-of}
 use Rattle.record_layout.specs.Kinds.{shapeOf}
 use Rattle.record_layout.specs.declared.kind.Kind.{Kind}
 use Rattle.record_body.proofs.fields.Statement.{statement}
@@ -10,7 +11,7 @@ use Rattle.record_body.proofs.fields.Tie as tie
 
 -- the head of the kind that is told is there
 headed : (c : tie.After-shared-slice-known) {k : Kind} → c .before .args .kind ≡ k → shapeOf k .head ≤ length (c .before .args .b .now)
-headed c told = subst (λ (x : Kind). shapeOf x .head ≤ length (c .before .args .b .now)) told (c .before .pre)
+headed c told = head-of (c .before .args .b .now) told (c .before .pre)
 
 fresh-requires : tie.Need-fresh-requires
 fresh-requires c κs = headed (c .before .before) (c .enum-told .given .1)

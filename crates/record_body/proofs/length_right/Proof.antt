@@ -8,14 +8,14 @@ use borrow.Author.Tests.{ne-eqb}
 use Rattle.counters.specs.Sizes.{base}
 use Rattle.record_layout.specs.Kinds.{bodyLength}
 use Rattle.record_layout.specs.declared.kind.Shape.{Shape}
-use Rattle.record_layout.proofs.Lengths.{some-head, by-the-rest}
+use Rattle.record_layout.proofs.Lengths.{row, by-the-rest}
 use Rattle.record_layout.proofs.Products.{bytes-product}
 use Rattle.record_body.proofs.length_right.Statement.{statement}
 use Rattle.record_body.proofs.length_right.Tie as tie
 
 -- every head has a byte
 some : (c : tie.After-shape) → 0 < c .shape .result .head
-some c = omega (arith, some-head (c .before .before .args .kind), ap (λ (x : Shape). x .head) (c .shape .ensures))
+some c = omega (arith, row (c .before .before .args .kind) .some-head, ap (λ (x : Shape). x .head) (c .shape .ensures))
 
 returns : tie.Need-returns
 returns c =

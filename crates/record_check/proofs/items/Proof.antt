@@ -3,7 +3,7 @@ use borrow.Author.Needs.{needs}
 use mathlib.Core.Bool.{Bool}
 use mathlib.Core.Path.{sym, ap, _∙_}
 use native.Mathlib.Omega.{arith}
-use Rattle.record_layout.proofs.Lengths.{counted-item}
+use Rattle.record_layout.proofs.Lengths.{row}
 use Rattle.record_layout.specs.declared.kind.Shape.{Shape}
 use Rattle.record_check.proofs.items.Statement.{statement}
 use Rattle.record_check.proofs.items.Tie as tie
@@ -13,7 +13,7 @@ div-result c =
     let counted = c .before in
     let shape = counted .before in
     let is-counted = sym (ap (λ (x : Shape). x .counted) (shape .shape .ensures)) ∙ counted .if1 .taken in
-    omega (arith, counted-item (shape .before .args .kind) is-counted, ap (λ (x : Shape). x .item) (shape .shape .ensures))
+    omega (arith, row (shape .before .args .kind) .counted-item is-counted, ap (λ (x : Shape). x .item) (shape .shape .ensures))
 
 returns : tie.Need-returns
 returns c =

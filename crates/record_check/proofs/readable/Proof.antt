@@ -5,7 +5,7 @@ use mathlib.Core.Path.{_≡_, sym, ap, _∙_}
 use native.Mathlib.Omega.{arith}
 use lib.ListN.{length}
 use Rattle.counters.specs.Sizes.{base}
-use Rattle.record_layout.specs.Beside.{itemsBeside}
+use Rattle.record_layout.specs.Serving.Beside.{itemsBeside}
 use Rattle.record_layout.specs.Kinds.{shapeOf}
 use Rattle.record_layout.specs.Fields.{kindOfFields}
 use Rattle.record_layout.specs.declared.kind.Kind.{Kind}
@@ -44,7 +44,7 @@ mul-if3 c =
     let shape = shaped c .shape .result in
     let kind = shaped c .before .kind .result in
     let small : shape .item < 256 = search needs in
-    let few : c .items .result ≤ 126 = rw (c .items .ensures) (few-items kind (length (begin (shaped c) .args .list .now)) (search needs)) in
+    let few : c .items .result ≤ 126 = rw (c .items .ensures) (few-items (shapeOf kind) (length (begin (shaped c) .args .list .now)) (search needs)) in
     let byte : c .items .result < 256 = omega (arith, few) in
     omega (arith, bytes-product (shape .item) (c .items .result) small byte)
 
