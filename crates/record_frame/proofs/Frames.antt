@@ -5,10 +5,10 @@ use mathlib.Core.Logic.{_⊎_, inl, inr}
 use mathlib.Core.Path.{_≡_, _∙_}
 use lib.ListN.{length, take, drop}
 use native.Mathlib.Omega.{arith}
-use borrow.Author.Tests.{ltb-false}
 use Rattle.answers.proofs.Deciding.{Accepts, OneHolds, decided}
 use Rattle.answers.specs.declared.Refusal.{Refusal}
 use Rattle.counters.specs.Sizes.{Size}
+use Rattle.record_layout.proofs.Checks.{frame-fits}
 use Rattle.record_layout.specs.Kinds.{kindOf}
 use Rattle.record_layout.specs.Reading.{lengthField, kindField, frameRules, framing, body, bodyPlace, reading, readingOf}
 use Rattle.record_layout.specs.declared.fields.Framing.{Framing}
@@ -31,7 +31,7 @@ whole z s told number e = go (decided (frameRules z s))
         let long : lengthField s ≡ told = cc same in
         let kind : kindField s ≡ number = cc same in
         record {
-          is-there = rw (← long) (ltb-false (length s) (4 + lengthField s) (a .passes .1 .1 .0));
+          is-there = rw (← long) (frame-fits z s (a .passes) .all-there);
           body-is = rw (← long) (a .gives (λ refusal. []) (take (lengthField s) (drop 4 s)));
           place-is = a .gives (λ refusal. 0) 4;
           reading-is = a .gives Reading.Refused (readingOf z (kindOf (kindField s)) (body z s)) ∙ rw kind;

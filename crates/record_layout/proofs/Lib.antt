@@ -3,6 +3,7 @@ pub mod DeclarationWalk
 pub mod Lengths
 pub mod LittleEndian
 pub mod Fronts
+pub mod Checks
 pub mod Frames
 pub mod Readable
 pub mod ReadBack

@@ -7,7 +7,7 @@ use native.Mathlib.Nat.{add-sub-cancel-left}
 use native.Mathlib.Omega.{arith}
 use lib.ListN.{length, take, drop, length-append}
 use lib.Seq.{take-at, drop-at}
-use Rattle.answers.proofs.Deciding.{NoneHolds, passed}
+use Rattle.answers.proofs.Deciding.{passed}
 use Rattle.counters.specs.Sizes.{Size}
 use Rattle.record_layout.specs.Bytes.{halfBytes, halfOf}
 use Rattle.record_layout.specs.Kinds.{shapeOf, kindOf, bodyLimit}
@@ -25,6 +25,7 @@ use Rattle.record_layout.specs.declared.fields.Fields.{Fields}
 use Rattle.record_layout.specs.declared.fields.Fields
 use Rattle.record_layout.specs.declared.fields.Reading.{Reading}
 use Rattle.record_layout.specs.declared.fields.Reading
+use Rattle.record_layout.proofs.Checks.{BodyFits, fits-body}
 use Rattle.record_layout.proofs.LittleEndian.{word-back}
 use Rattle.record_layout.proofs.Lengths.{length-front, length-body, length-record}
 use Rattle.record_layout.proofs.Readable.{IsRight, readable-right}
@@ -56,12 +57,12 @@ fields-back (Fields.Event event) list fit = go event fit
     go (Event.End slot tick rollback) fit = rw (word-back tick list (fit .1))
 fields-back (Fields.Ended tick slot rollback) list fit = rw (word-back tick (slot .0 ∷ length list / 5 ∷ list) (fit .0))
 
-body-reads : (z : Size) (f : Fields) (list : List ℕ) → Fit f → NoneHolds (bodyRules z (kindOfFields f) (bodyOf f list))
+body-reads : (z : Size) (f : Fields) (list : List ℕ) → Fit f → BodyFits z (kindOfFields f) (bodyOf f list)
     → bodyReading z (kindOfFields f) (bodyOf f list) ≡ Reading.Record f (listPlace (kindOfFields f)) (4 + length (bodyOf f list))
-body-reads z f list fit passes =
+body-reads z f list fit fits =
     let k : Kind = kindOfFields f in
     let b : List ℕ = bodyOf f list in
-    passed (bodyRules z k b) Reading.Refused (Reading.Record (fieldsOf k b) (listPlace k) (4 + length b)) passes
+    passed (bodyRules z k b) Reading.Refused (Reading.Record (fieldsOf k b) (listPlace k) (4 + length b)) (fits-body z k b fits)
     ∙ ap (λ (g : Fields). Reading.Record g (listPlace k) (4 + length b)) (fields-back f list fit)
 
 -- the list of a record, found by its place and by where the record ends
@@ -86,7 +87,7 @@ written-reads-back z f list rest small fit reads =
     let told : reading z (framed (length b) number (b ++ rest)) ≡ Reading.Record f (listPlace k) (4 + length b) =
     frame-reading z number b rest (right .short) small
     ∙ ap (λ (found : KindFound). readingOf z found b) (kind-back k (b ++ rest))
-    ∙ body-reads z f list fit (right .passes) in
+    ∙ body-reads z f list fit (right .fits) in
     let all : recordOf f list ++ rest ≡ framed (length b) number (b ++ rest) = ap (λ (bytes : ℕ). framed bytes number (b ++ rest)) (sym (length-body f list)) in
     let record-is : reading z (recordOf f list ++ rest) ≡ Reading.Record f (listPlace k) (length (recordOf f list)) =
     ap (reading z) all ∙ told ∙ ap (Reading.Record f (listPlace k)) (omega (arith, length-body f list, length-record f list)) in

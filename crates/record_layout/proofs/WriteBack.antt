@@ -8,7 +8,7 @@ use native.Mathlib.Omega.{arith}
 use lib.ListN.{length, take, drop, length-drop, take-append-drop}
 use lib.Seq.{length-take-le, drop-drop, drop-nil, take-nil}
 use lib.Dec.{eqb}
-use borrow.Author.Tests.{ltb-false, eqb-true, not-false}
+use borrow.Author.Tests.{eqb-true}
 use Rattle.answers.specs.Order.{Rule, pick, decide}
 use Rattle.answers.proofs.Deciding.{NoneHolds, Accepts, OneHolds, decided, passed}
 use Rattle.counters.specs.Sizes.{Size}
@@ -24,6 +24,7 @@ use Rattle.record_layout.specs.declared.kind.KindFound.the-variants.{Kno
 use Rattle.record_layout.specs.declared.fields.Fields.{Fields}
 use Rattle.record_layout.specs.declared.fields.Reading.{Reading}
 use Rattle.record_layout.specs.declared.fields.Reading
+use Rattle.record_layout.proofs.Checks.{FrameFits, frame-fits, BodyFits, body-fits}
 use Rattle.record_layout.proofs.Fronts.{by-front, bytes-drop, bytes-take, half-front, word-front, behind-front}
 use Rattle.record_layout.proofs.Lengths.{length-body, length-record}
 use Rattle.record_layout.proofs.Readable.{right-readable}
@@ -89,7 +90,7 @@ kind-kept (Ended rollback) b = refl
 pub record IsRead (z : Size) (s : List ℕ) (f : Fields) (list taken : ℕ) : Type 0 where
   pub frame-passes : NoneHolds (frameRules z s)
   pub kind-is : kindField s ≡ shapeOf (kindOfFields f) .number
-  pub body-passes : NoneHolds (bodyRules z (kindOfFields f) (body z s))
+  pub fits : BodyFits z (kindOfFields f) (body z s)
   pub fields-are : fieldsOf (kindOfFields f) (body z s) ≡ f
   pub list-is : list ≡ listPlace (kindOfFields f)
   pub taken-is : taken ≡ 4 + length (body z s)
@@ -121,7 +122,7 @@ record-read z s f list taken read = go (kindOf (kindField s)) refl (whole .1)
         record {
           frame-passes = whole .0;
           kind-is = kind-number kinds (kindField s) k e ∙ ap (λ (x : Kind). shapeOf x .number) same;
-          body-passes = subst (λ (x : Kind). NoneHolds (bodyRules z x b)) same (right .0);
+          fits = subst (λ (x : Kind). BodyFits z x b) same (body-fits z k b (right .0));
           fields-are = subst (λ (x : Kind). fieldsOf x b ≡ f) same fields;
           list-is = sym place ∙ ap listPlace same;
           taken-is = sym ends;
@@ -165,21 +166,18 @@ module _ (z : Size) (s : List ℕ) (f : Fields) (list taken : ℕ) (read : readi
   pub body-there : body z s ≡ take (lengthField s) (drop 4 s)
   body-there = passed (frameRules z s) (λ refusal. []) (take (lengthField s) (drop 4 s)) (is .frame-passes)
 
-  all-there : 4 + lengthField s ≤ length s
-  all-there = ltb-false (length s) (4 + lengthField s) (is .frame-passes .1 .1 .0)
+  framed-right : FrameFits z s
+  framed-right = frame-fits z s (is .frame-passes)
 
   body-long : length (body z s) ≡ lengthField s
-  body-long = ap length body-there ∙ length-take-le (lengthField s) (drop 4 s) (rw length-drop (omega (arith, all-there)))
-
-  right-length : length (body z s) ≡ bodyLength z (kindOfFields f) (body z s)
-  right-length = eqb-true _ _ (not-false _ (is .body-passes .0))
+  body-long = ap length body-there ∙ length-take-le (lengthField s) (drop 4 s) (rw length-drop (omega (arith, framed-right .all-there)))
 
   -- the list stands inside the record, and the record inside the bytes
   pub list-inside : list ≤ taken
-  list-inside = omega (arith, is .list-is, is .taken-is, right-length)
+  list-inside = omega (arith, is .list-is, is .taken-is, is .fits .right-length)
 
   pub taken-inside : taken ≤ length s
-  taken-inside = omega (arith, is .taken-is, body-long, all-there)
+  taken-inside = omega (arith, is .taken-is, body-long, framed-right .all-there)
 
   pub some-taken : 0 < taken
   some-taken = omega (arith, is .taken-is)
@@ -195,17 +193,16 @@ module _ (z : Size) (s : List ℕ) (f : Fields) (list taken : ℕ) (read : readi
 
   -- and has the items that the kind and n ask for
   pub list-long : length (listing z s) ≡ shapeOf (kindOfFields f) .item * itemsOf z (shapeOf (kindOfFields f)) (body z s)
-  list-long = ap length list-behind ∙ length-drop head (body z s) ∙ omega (arith, right-length)
+  list-long = ap length list-behind ∙ length-drop head (body z s) ∙ omega (arith, is .fits .right-length)
 
   module _ (bytes : AreBytes s) where
     body-kept : bodyOf f (listing z s) ≡ body z s
     body-kept =
         let k : Kind = kindOfFields f in
-        let right : contentRight z k (body z s) ≡ true = not-false _ (is .body-passes .1 .0) in
         let are : AreBytes (body z s) = subst AreBytes (sym body-there) (bytes-take (lengthField s) (drop 4 s) (bytes-drop 4 s bytes)) in
         ap (bodyOf f) list-behind
         ∙ ap (λ (g : Fields). bodyOf g (drop (shapeOf k .head) (body z s))) (sym (is .fields-are))
-        ∙ body-again z k (body z s) (omega (arith, right-length)) are right-length right
+        ∙ body-again z k (body z s) (omega (arith, is .fits .right-length)) are (is .fits .right-length) (is .fits .right-content)
 
     front-kept : framed (lengthField s) (kindField s) (take (lengthField s) (drop 4 s)) ≡ recordOf f (listing z s)
     front-kept =
@@ -215,13 +212,13 @@ module _ (z : Size) (s : List ℕ) (f : Fields) (list taken : ℕ) (read : readi
     -- whatever reads is, byte for byte, what its fields would write
     pub read-is-written : (readable z f (listing z s) ≡ true) × (s ≡ recordOf f (listing z s) ++ drop (length (recordOf f (listing z s))) s)
     read-is-written =
-        let short : length (body z s) ≤ bodyLimit z = rw body-long (ltb-false (bodyLimit z) (lengthField s) (is .frame-passes .1 .0)) in
+        let short : length (body z s) ≤ bodyLimit z = rw body-long (framed-right .short) in
         let rest : List ℕ = drop (lengthField s) (drop 4 s) in
         let whole : s ≡ recordOf f (listing z s) ++ rest =
-        sym (frame-again s (ltb-false (length s) 4 (is .frame-passes .0)) bytes)
+        sym (frame-again s (framed-right .framed) bytes)
         ∙ ap (framed (lengthField s) (kindField s)) (sym (take-append-drop (lengthField s) (drop 4 s)))
         ∙ ap (λ (x : List ℕ). x ++ rest) front-kept in (
-          right-readable z f (listing z s) (body z s) body-kept (record { short = short; passes = is .body-passes }),
+          right-readable z f (listing z s) (body z s) body-kept (record { short = short; fits = is .fits }),
           behind-front s (recordOf f (listing z s)) rest whole,
         )
 

@@ -4,7 +4,6 @@ use mathlib.Core.Bool.{Bool, true, false, _&&_}
 use mathlib.Core.List.{List, [], _∷_}
 use mathlib.Core.Logic.{inl, inr}
 use mathlib.Core.Path.{_≡_, refl, sym, subst}
-use borrow.Author.Tests.{not-false}
 use native.Mathlib.Omega.{arith}
 use lib.Dec.{ltb}
 use lib.ListN.{drop}
@@ -39,7 +38,7 @@ end-list-rises z s is-end = go (reading z s) refl is-end
     go (Reading.Record (Fields.Fresh first) list taken) e is-end = no-end is-end
     go (Reading.Record (Fields.Event event) list taken) e is-end = no-end is-end
     go (Reading.Record (Fields.Ended tick slot rollback) list taken) e is-end =
-        let right : endRight z (body z s) ≡ true = not-false _ (record-read z s (Fields.Ended tick slot rollback) list taken e .body-passes .1 .0) in
+        let right : endRight z (body z s) ≡ true = record-read z s (Fields.Ended tick slot rollback) list taken e .fits .right-content in
         subst (λ (l : List ℕ). Rising (z .objects) (entriesOf l)) (sym (list-behind z s (Fields.Ended tick slot rollback) list taken e)) (end-rises z (body z s) right)
 
 -- parts of bytes are bytes
