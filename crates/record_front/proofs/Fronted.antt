@@ -6,7 +6,7 @@ use Rattle.record_layout.specs.Bytes.{halfBytes}
 use Rattle.record_layout.specs.Kinds.{shapeOf}
 use Rattle.record_layout.specs.Fields.{kindOfFields, headOf, frontOf}
 use Rattle.record_layout.specs.declared.fields.Fields.{Fields}
-use Rattle.record_front.specs.Filled.{inOrder, filled}
+use Rattle.record_front.specs.Serving.Filled.{inOrder, filled}
 use Rattle.record_front.specs.declared.fours.Four.{Four}
 
 pub fronted : (f g : Fields) (bytes : ℕ) (frame : Four) (made : List ℕ) → f ≡ g

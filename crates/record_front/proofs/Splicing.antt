@@ -9,7 +9,7 @@ use Rattle.record_layout.specs.Kinds.{shapeOf}
 use Rattle.record_layout.specs.Fields.{kindOfFields, frontOf, recordOf}
 use Rattle.record_layout.specs.declared.fields.Fields.{Fields}
 use Rattle.record_layout.proofs.Lengths.{length-front, row}
-use Rattle.record_front.specs.Filled.{filled}
+use Rattle.record_front.specs.Serving.Filled.{filled}
 
 -- the next bytes behind a front
 pub put-behind : (front x b : List ℕ) (at : ℕ) → length front ≡ at → at + length x ≤ length b

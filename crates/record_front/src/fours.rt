@@ -5,7 +5,7 @@ ghost use Prim.Native.Nat.{_+_, _≤_};
 ghost use Rattle.record_layout.specs.Bytes.{halfBytes, wordBytes};
 ghost use Rattle.record_layout.specs.Kinds.{shapeOf};
 ghost use Rattle.record_layout.specs.Fields.{kindOfFields};
-ghost use Rattle.record_front.specs.Filled.{inOrder};
+ghost use Rattle.record_front.specs.Serving.Filled.{inOrder};
 use record_layout::fields::Fields;
 
 pub struct Four(pub u8, pub u8, pub u8, pub u8);

@@ -4,7 +4,7 @@ ghost use mathlib.Core.Path.{_≡_};
 ghost use mathlib.Core.List.{[], _∷_, _++_};
 ghost use Rattle.record_layout.specs.Bytes.{wordBytes};
 ghost use Rattle.record_layout.specs.Fields.{eventHead};
-ghost use Rattle.record_front.specs.Filled.{inOrder, filled};
+ghost use Rattle.record_front.specs.Serving.Filled.{inOrder, filled};
 use crate::fours::Four;
 use crate::fours::word;
 use counters::ObjectNo;

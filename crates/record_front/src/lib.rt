@@ -2,7 +2,7 @@
 ghost use Prim.Native.Nat.{_≤_};
 ghost use mathlib.Core.Path.{_≡_};
 ghost use Rattle.record_layout.specs.Fields.{frontOf};
-ghost use Rattle.record_front.specs.Filled.{filled};
+ghost use Rattle.record_front.specs.Serving.Filled.{filled};
 
 mod fours;
 mod heads;

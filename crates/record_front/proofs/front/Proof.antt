@@ -5,7 +5,7 @@ use mathlib.Core.List.{List, _++_}
 use mathlib.Core.Path.{_≡_}
 use Rattle.record_layout.specs.Fields.{headOf, frontOf}
 use Rattle.record_layout.specs.declared.fields.Fields.{Fields}
-use Rattle.record_front.specs.Filled.{inOrder, filled}
+use Rattle.record_front.specs.Serving.Filled.{inOrder, filled}
 use Rattle.record_front.proofs.Fronted.{fronted}
 use Rattle.record_front.proofs.front.Statement.{statement}
 use Rattle.record_front.proofs.front.Tie as tie

@@ -6,7 +6,7 @@ use mathlib.Core.Path.{_≡_, sym, ap, _∙_}
 use native.Mathlib.Omega.{arith}
 use lib.ListN.{length, take, drop}
 use lib.Seq.{length-take-le, take-length}
-use Rattle.record_front.specs.Filled.{filled}
+use Rattle.record_front.specs.Serving.Filled.{filled}
 use Rattle.record_front.proofs.Splicing.{front-and-list}
 use Rattle.record_layout.proofs.PartFilled.{part-filled, part-room}
 use Rattle.record_layout.specs.Fields.{frontOf, recordOf}
