@@ -30,24 +30,25 @@ valued : Answer → ℕ → Answer
 valued (Accepted v) n = Accepted n
 valued (Refused r) n = Refused r
 
-abbrev answerOf : Reply → Answer
+-- the answer that a reply is of
+pub answerOf : Reply → Answer
 answerOf p = valued (getD table (p .number) (Accepted 0)) (p .value)
 
-told : (a : Answer) → answerOf (replyOf a) ≡ a
-unfolding valued
-told (Accepted v) = refl
-told (Refused BadSlot) = refl
-told (Refused BadObject) = refl
-told (Refused BadList) = refl
-told (Refused Busy) = refl
-told (Refused Idle) = refl
-told (Refused NotDeclared) = refl
-told (Refused BadCall) = refl
-told (Refused Released) = refl
-told (Refused Doomed) = refl
-told (Refused Wait) = refl
-told (Refused NoRoom) = refl
-told (Refused BadRecord) = refl
+pub answer-back : (a : Answer) → answerOf (replyOf a) ≡ a
+unfolding answerOf valued
+answer-back (Accepted v) = refl
+answer-back (Refused BadSlot) = refl
+answer-back (Refused BadObject) = refl
+answer-back (Refused BadList) = refl
+answer-back (Refused Busy) = refl
+answer-back (Refused Idle) = refl
+answer-back (Refused NotDeclared) = refl
+answer-back (Refused BadCall) = refl
+answer-back (Refused Released) = refl
+answer-back (Refused Doomed) = refl
+answer-back (Refused Wait) = refl
+answer-back (Refused NoRoom) = refl
+answer-back (Refused BadRecord) = refl
 
 pub reply-tells : (a b : Answer) → replyOf a ≡ replyOf b → a ≡ b
-reply-tells a b p = sym (told a) ∙ ap answerOf p ∙ told b
+reply-tells a b p = sym (answer-back a) ∙ ap answerOf p ∙ answer-back b

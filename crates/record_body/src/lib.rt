@@ -7,6 +7,7 @@ ghost use Rattle.counters.specs.Sizes.{base};
 ghost use Rattle.record_layout.specs.Kinds.{shapeOf, bodyLength};
 ghost use Rattle.record_layout.specs.Fields.{fieldsOf};
 ghost use Rattle.record_layout.specs.Reading.{endRight, contentRight, bodyReading};
+ghost use Rattle.record_layout.specs.Telling.{toldByReading};
 
 mod heads;
 
@@ -20,7 +21,7 @@ use record_layout::fields::Reading;
 use record_layout::kind::Kind;
 
 pub fn read(kind: Kind, b: &[u8]) -> Reading
-    ensures { λ r. ⌜ r ≡ bodyReading base kind (now (b .entry)) ⌝ }
+    ensures { λ r. ⌜ toldByReading r ≡ toldByReading (bodyReading base kind (now (b .entry))) ⌝ }
 {
     if !length_right(kind, b) {
         return Reading::Refused(Refusal::BadRecord);

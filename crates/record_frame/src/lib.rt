@@ -3,6 +3,7 @@ ghost use mathlib.Core.Path.{_≡_};
 ghost use Rattle.counters.specs.Sizes.{base};
 ghost use Rattle.record_layout.specs.Bytes.{IsPart};
 ghost use Rattle.record_layout.specs.Reading.{framing, body, bodyPlace};
+ghost use Rattle.record_layout.specs.Telling.{toldByFraming};
 use answers::Refusal;
 use record_bytes::half;
 use record_layout::fields::Framing;
@@ -10,7 +11,7 @@ use record_layout::kind::BODY_LIMIT;
 
 // The first three checks: under 4 bytes, length over the limit, body not all there.
 pub fn frame(s: &[u8]) -> Framing
-    ensures { λ r. ⌜ r ≡ framing base (now (s .entry)) ⌝ }
+    ensures { λ r. ⌜ toldByFraming r ≡ toldByFraming (framing base (now (s .entry))) ⌝ }
 {
     if s.len() < 4 {
         return Framing::Refused(Refusal::BadRecord);

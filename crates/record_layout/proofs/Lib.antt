@@ -12,3 +12,4 @@ pub mod Writes
 pub mod Placing
 pub mod Products
 pub mod PartFilled
+pub mod Telling

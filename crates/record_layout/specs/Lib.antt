@@ -4,5 +4,6 @@ pub mod Entries
 pub mod Declarations
 pub mod Fields
 pub mod Reading
+pub mod Telling
 pub mod Writing
 pub mod Serving

@@ -1,19 +1,25 @@
 -- The answer on bytes: which rule gives it, that changing A and B over changes it over, and that no second one fits.
 use Prim.Native.Nat.{ℕ}
 use mathlib.Core.Bool.{Bool, true, false}
-use mathlib.Core.List.{List}
+use mathlib.Core.List.{List, [], _∷_}
 use mathlib.Core.Path.{_≡_, refl, sym, ap, _∙_}
+use lib.ListN.{getD}
+use Rattle.answers.proofs.Tells.{answerOf, answer-back}
+use Rattle.answers.specs.Numbers.{Reply}
 use Rattle.answers.specs.Order.{decide}
+use Rattle.answers.specs.declared.Answer.{Answer}
+use Rattle.answers.specs.declared.Answer
 use Rattle.answers.specs.declared.Refusal.the-variants.{BadRecord}
 use Rattle.counters.specs.Sizes.{Size}
 use Rattle.counters.specs.Comparing.{compared}
+use Rattle.counters.specs.declared.Comparison.the-variants.{A, B, Same, Far}
 use Rattle.record_layout.specs.Bytes.{AreBytes}
 use Rattle.record_layout.specs.Entries.{entriesOf}
 use Rattle.record_layout.specs.Reading.{reading, listing}
-use Rattle.record_order.specs.CameFirst.{meetingOf, isEnd, orderRules, cameFirst, swappedOver}
+use Rattle.record_order.specs.CameFirst.{meetingOf, isEnd, orderRules, cameFirst, orderOf, swappedOver}
 use Rattle.record_order.specs.CommonObject.{Smallest}
 use Rattle.record_order.specs.declared.CameFirst.{CameFirst}
-use Rattle.record_order.specs.declared.CameFirst.the-variants.{Compared, Refused}
+use Rattle.record_order.specs.declared.CameFirst.the-variants.{Compared, Unrelated, Refused}
 use Rattle.record_order.proofs.SmallestFound.{smallest-answers, meeting-swapped}
 use Rattle.record_order.proofs.Ends.{end-list-rises, list-versions}
 
@@ -54,6 +60,22 @@ came-first-swapped z a b bytes-a bytes-b =
     meeting-swapped (z .objects) (entriesOf (listing z a)) (entriesOf (listing z b))
     (end-list-rises z a end-a) (end-list-rises z b end-b) (list-versions z a bytes-a) (list-versions z b bytes-b))
 
--- no second answer fits the promise on the same bytes
-pub only-answer : (z : Size) (a b : List ℕ) (r other : CameFirst) → r ≡ cameFirst z a b → other ≡ cameFirst z a b → r ≡ other
-only-answer z a b r other promised again = promised ∙ sym again
+-- R38 read by number
+abbrev orders : List CameFirst
+orders = Unrelated ∷ Compared A ∷ Compared B ∷ Compared Same ∷ Compared Far ∷ []
+
+abbrev orderFrom : Answer → CameFirst
+orderFrom (Answer.Accepted code) = getD orders code Unrelated
+orderFrom (Answer.Refused refusal) = Refused refusal
+
+order-back : (r : CameFirst) → orderFrom (answerOf (orderOf r)) ≡ r
+order-back (Compared A) = ap orderFrom (answer-back (Answer.Accepted 1))
+order-back (Compared B) = ap orderFrom (answer-back (Answer.Accepted 2))
+order-back (Compared Same) = ap orderFrom (answer-back (Answer.Accepted 3))
+order-back (Compared Far) = ap orderFrom (answer-back (Answer.Accepted 4))
+order-back Unrelated = ap orderFrom (answer-back (Answer.Accepted 5))
+order-back (Refused refusal) = ap orderFrom (answer-back (Answer.Refused refusal))
+
+-- no second answer fits a promise on what is told: equal replies come from equal answers
+pub order-tells : (r other : CameFirst) → orderOf r ≡ orderOf other → r ≡ other
+order-tells r other same = sym (order-back r) ∙ ap (λ (reply : Reply). orderFrom (answerOf reply)) same ∙ order-back other

@@ -3,10 +3,13 @@ use Prim.Native.Nat.{ℕ}
 use mathlib.Core.Bool.{Bool, true, false, not}
 use mathlib.Core.List.{List, [], _∷_}
 use lib.Dec.{eqb}
+use Rattle.answers.specs.Numbers.{Reply, accepted, refused}
 use Rattle.answers.specs.Order.{pick, Rule, decide, _when_}
 use Rattle.answers.specs.declared.Refusal.the-variants.{BadRecord}
 use Rattle.counters.specs.Sizes.{Size}
 use Rattle.counters.specs.Comparing.{compared, swapped}
+use Rattle.counters.specs.declared.Comparison.{Comparison}
+use Rattle.counters.specs.declared.Comparison.the-variants.{A, B, Same, Far}
 use Rattle.record_layout.specs.Entries.{Entry, entriesOf}
 use Rattle.record_layout.specs.Reading.{reading, listing}
 use Rattle.record_layout.specs.declared.fields.Fields.{Fields}
@@ -47,6 +50,19 @@ orderRules a-is-end b-is-end =
 abbrev pub cameFirst : Size → List ℕ → List ℕ → CameFirst
 cameFirst z a b =
     decide (orderRules (isEnd (reading z a)) (isEnd (reading z b))) Refused (meetingOf (entriesOf (listing z a)) (entriesOf (listing z b)))
+
+-- R38: the answers of R36 as numbers
+abbrev pub codeOf : Comparison → ℕ
+codeOf A = 1
+codeOf B = 2
+codeOf Same = 3
+codeOf Far = 4
+
+-- R38: what the caller is told
+abbrev pub orderOf : CameFirst → Reply
+orderOf (Compared comparison) = accepted (codeOf comparison)
+orderOf Unrelated = accepted 5
+orderOf (Refused refusal) = refused refusal
 
 -- the same answer with A and B changed over
 abbrev pub swappedOver : CameFirst → CameFirst

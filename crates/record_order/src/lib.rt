@@ -2,7 +2,7 @@
 ghost use mathlib.Core.Path.{_≡_};
 ghost use Rattle.counters.specs.Sizes.{base};
 ghost use Rattle.record_layout.specs.Entries.{entriesOf};
-ghost use Rattle.record_order.specs.CameFirst.{meetingOf, isEnd, cameFirst};
+ghost use Rattle.record_order.specs.CameFirst.{meetingOf, isEnd, cameFirst, orderOf};
 use answers::Refusal;
 use counters::Comparison;
 use counters::Version;
@@ -18,7 +18,7 @@ pub enum CameFirst {
 
 // R34: A is tried before B.
 pub fn came_first(a: &[u8], b: &[u8]) -> CameFirst
-    ensures { λ r. ⌜ r ≡ cameFirst base (now (a .entry)) (now (b .entry)) ⌝ }
+    ensures { λ r. ⌜ orderOf r ≡ orderOf (cameFirst base (now (a .entry)) (now (b .entry))) ⌝ }
 {
     let read_a = record_read::read(a);
     if !is_end(read_a) {

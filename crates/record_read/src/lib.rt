@@ -3,6 +3,7 @@ ghost use mathlib.Core.Path.{_≡_};
 ghost use Rattle.counters.specs.Sizes.{base};
 ghost use Rattle.record_layout.specs.Bytes.{IsPart};
 ghost use Rattle.record_layout.specs.Reading.{reading, listIn, listing, listAt};
+ghost use Rattle.record_layout.specs.Telling.{toldByReading};
 use answers::Refusal;
 use record_frame::frame;
 use record_layout::fields::Framing;
@@ -12,7 +13,7 @@ use record_layout::kind::of_number;
 
 // The first record, or the refusal. Each byte of frame and head is looked at once.
 pub fn read(s: &[u8]) -> Reading
-    ensures { λ r. ⌜ r ≡ reading base (now (s .entry)) ⌝ }
+    ensures { λ r. ⌜ toldByReading r ≡ toldByReading (reading base (now (s .entry))) ⌝ }
 {
     match frame(s) {
         Framing::Refused(refusal) => Reading::Refused(refusal),
@@ -32,7 +33,7 @@ pub fn list(s: &[u8]) -> &[u8]
 
 // The same of bytes that were read already.
 pub fn list_of(read: Reading, s: &[u8]) -> &[u8]
-    requires { ⌜ read ≡ reading base (now s) ⌝ }
+    requires { ⌜ toldByReading read ≡ toldByReading (reading base (now s)) ⌝ }
     ensures { λ r. ⌜ IsPart r (s .entry) (listAt read) (listIn read (now (s .entry))) ⌝ }
 {
     let Reading::Record {

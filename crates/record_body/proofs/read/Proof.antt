@@ -12,6 +12,7 @@ use Rattle.counters.specs.Sizes.{base}
 use Rattle.record_layout.specs.Kinds.{shapeOf, bodyLength}
 use Rattle.record_layout.specs.Fields.{fieldsOf, listPlace}
 use Rattle.record_layout.specs.Reading.{contentRight, bodyRules}
+use Rattle.record_layout.specs.Telling.{toldByReading}
 use Rattle.record_layout.specs.declared.fields.Reading.{Reading}
 use Rattle.record_layout.specs.declared.fields.Reading
 use Rattle.record_body.proofs.read.Statement.{statement}
@@ -48,11 +49,12 @@ returns-3 c =
     let content = fields .before .before in
     let a = content .before .before .before .before .args in
     let right : contentRight base (a .kind) (a .b .now) ≡ true = sym (content .content-right .ensures) ∙ not-false _ (fields .before .if2 .left) in
-    (λ i. Reading.Record (fields .fields .ensures i) (4 + shape .shape .ensures i .head) (4 + length (a .b .now)))
+    ap toldByReading
+    ((λ i. Reading.Record (fields .fields .ensures i) (4 + shape .shape .ensures i .head) (4 + length (a .b .now)))
     ∙ sym
     (passed (bodyRules base (a .kind) (a .b .now)) Reading.Refused
     (Reading.Record (fieldsOf (a .kind) (a .b .now)) (listPlace (a .kind)) (4 + length (a .b .now)))
-    (ap not (right-length (content .before)), (ap not right, tt)))
+    (ap not (right-length (content .before)), (ap not right, tt))))
 
 pub read-spec : {M : Type 1} → statement M
 read-spec =

@@ -5,6 +5,7 @@ use mathlib.Core.Path.{sym, ap, _∙_}
 use native.Mathlib.Nat.{add-sub-cancel-left, zero-add}
 use lib.ListN.{take, drop}
 use Rattle.counters.specs.Sizes.{base}
+use Rattle.record_layout.proofs.Telling.{framing-tells}
 use Rattle.record_frame.proofs.Frames.{IsWhole, whole, not-whole}
 use Rattle.record_frame.proofs.body.Statement.{statement}
 use Rattle.record_frame.proofs.body.Tie as tie
@@ -13,14 +14,14 @@ returns : tie.Need-returns
 returns c =
     let framed = c .before .before .before in
     let told = c .before .enum-told .given in
-    let refused = not-whole base (framed .before .before .args .s .now) (told .0 .0) (sym (framed .frame .ensures) ∙ told .1) in
+    let refused = not-whole base (framed .before .before .args .s .now) (told .0 .0) (sym (framing-tells _ _ (framed .frame .ensures)) ∙ told .1) in
     record { bytes = sym (refused .body-is); place-is = rw (refused .place-is, zero-add) }
 
 -- what the frame tells, seen from where its parts are bound
 is-whole : (c : tie.After-length) → IsWhole base (c .before .before .before .before .args .s .now) (c .length .given .0 .0) (c .length .given .0 .1 .0)
 is-whole c =
     let framed = c .before .before in
-    whole base (framed .before .before .args .s .now) (c .length .given .0 .0) (c .length .given .0 .1 .0) (sym (framed .frame .ensures) ∙ c .length .given .1)
+    whole base (framed .before .before .args .s .now) (c .length .given .0 .0) (c .length .given .0 .1 .0) (sym (framing-tells _ _ (framed .frame .ensures)) ∙ c .length .given .1)
 
 part-result-end : tie.Need-part-result-end
 part-result-end c = is-whole (c .before) .is-there

@@ -4,6 +4,7 @@ use mathlib.Core.List.{List}
 use mathlib.Core.Path.{_≡_, sym, ap, _∙_}
 use native.Mathlib.Nat.{zero-add}
 use Rattle.counters.specs.Sizes.{base}
+use Rattle.record_layout.proofs.Telling.{reading-tells}
 use Rattle.record_layout.proofs.WriteBack.{list-inside, taken-inside}
 use Rattle.record_layout.specs.Reading.{reading, listIn}
 use Rattle.record_layout.specs.declared.fields.Reading.{Reading}
@@ -20,7 +21,7 @@ returns c =
 -- the record that was read, seen from where its parts are bound
 is-read : (c : tie.After-read)
     → reading base (c .before .before .args .s .now) ≡ Reading.Record (c .read .given .0 .0) (c .read .given .0 .1 .0) (c .read .given .0 .1 .1 .0)
-is-read c = sym (c .before .before .pre) ∙ c .read .given .1
+is-read c = sym (reading-tells _ _ (c .before .before .pre)) ∙ c .read .given .1
 
 sub-result : tie.Need-sub-result
 sub-result c = list-inside base (c .before .before .before .args .s .now) _ _ _ (is-read (c .before))

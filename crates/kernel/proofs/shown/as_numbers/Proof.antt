@@ -2,7 +2,7 @@
 use mathlib.Core.Path.{sym, ap, _∙_}
 use Prim.Native.Nat.{ℕ}
 use Rattle.answers.specs.Numbers.{accepted}
-use Rattle.kernel.specs.Shown.{orderOf}
+use Rattle.record_order.specs.CameFirst.{orderOf}
 use borrow.Author.Needs.{needs}
 use Rattle.kernel.proofs.shown.as_numbers.Statement.{statement}
 use Rattle.kernel.proofs.shown.as_numbers.Tie as tie

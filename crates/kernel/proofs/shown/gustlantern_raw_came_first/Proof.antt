@@ -1,7 +1,5 @@
 -- `kernel::shown::gustlantern_raw_came_first` meets its promise.
-use mathlib.Core.Path.{ap, _∙_}
-use Rattle.record_order.specs.declared.CameFirst.{CameFirst}
-use Rattle.kernel.specs.Shown.{orderOf}
+use mathlib.Core.Path.{_∙_}
 use borrow.Author.Needs.{needs}
 use Rattle.kernel.proofs.shown.gustlantern_raw_came_first.Statement.{statement}
 use Rattle.kernel.proofs.shown.gustlantern_raw_came_first.Tie as tie
@@ -12,7 +10,7 @@ returns c =
     let numbered = valued .before in
     (λ i. record { number = c .number .ensures i; value = valued .value .ensures i })
     ∙ numbered .as-numbers .ensures
-    ∙ ap orderOf (numbered .before .came-first .ensures)
+    ∙ numbered .before .came-first .ensures
 
 pub gustlantern-raw-came-first-spec : {M : Type 1} → statement M
 gustlantern-raw-came-first-spec =

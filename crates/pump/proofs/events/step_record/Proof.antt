@@ -3,6 +3,7 @@ use Prim.Native.Nat.{ℕ}
 use mathlib.Core.List.{List}
 use mathlib.Core.Path.{ap, _∙_}
 use Rattle.counters.specs.Sizes.{base}
+use Rattle.record_layout.proofs.Telling.{reading-tells}
 use Rattle.record_layout.specs.Reading.{listIn}
 use Rattle.record_layout.specs.declared.fields.Reading.{Reading}
 use Rattle.rules.specs.Steps.{readStep}
@@ -20,7 +21,7 @@ returns c =
     let t = held (a .words .now) (a .bytes .now) (a .marks .now) in
     stepped .step-read .ensures
     ∙ ap (λ (l : List ℕ). readStep base t (read .read .result) l (a .buf .now)) (listed .list-of .ensures .bytes)
-    ∙ ap (λ (r : Reading). readStep base t r (listIn r (a .given .now)) (a .buf .now)) (read .read .ensures)
+    ∙ ap (λ (r : Reading). readStep base t r (listIn r (a .given .now)) (a .buf .now)) (reading-tells _ _ (read .read .ensures))
 
 pub step-record-spec : {M : Type 1} → statement M
 step-record-spec =
