@@ -13,3 +13,4 @@ pub mod Placing
 pub mod Products
 pub mod PartFilled
 pub mod Telling
+pub mod Parts
