@@ -1,4 +1,3 @@
 -- What contracts of inner functions and laws say beside the layout. No promise of an entry point names any of it.
 pub mod Beside
 pub mod Fitting
-pub mod Placing

@@ -28,18 +28,15 @@ pub record Written : Type 0 where
 abbrev pub written : Answer → List ℕ → Written
 written answer buffer = record { reply = replyOf answer; buffer = buffer }
 
--- a refusal leaves the buffer; else the record stands in front of it, and the value is its bytes
-abbrev pub writtenBy : List Rule → Fields → List ℕ → List ℕ → Written
-writtenBy rules f list buffer =
-    decide rules
-    (λ refusal. record { reply = refused refusal; buffer = buffer })
-    (record { reply = accepted (length (recordOf f list)); buffer = recordOf f list ++ drop (length (recordOf f list)) buffer })
-
 abbrev pub writingRules : Size → Fields → List ℕ → List ℕ → List Rule
 writingRules z f list buffer =
     BadRecord when not (readable z f list)
     ∷ NoRoom when ltb (length buffer) (length (recordOf f list))
     ∷ []
 
+-- a refusal leaves the buffer; else the record stands in front of it, and the value is its bytes
 abbrev pub writing : Size → Fields → List ℕ → List ℕ → Written
-writing z f list buffer = writtenBy (writingRules z f list buffer) f list buffer
+writing z f list buffer =
+    decide (writingRules z f list buffer)
+    (λ refusal. record { reply = refused refusal; buffer = buffer })
+    (record { reply = accepted (length (recordOf f list)); buffer = recordOf f list ++ drop (length (recordOf f list)) buffer })

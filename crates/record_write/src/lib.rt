@@ -6,32 +6,20 @@ ghost use lib.ListN.{length, drop};
 ghost use Rattle.counters.specs.Sizes.{base};
 ghost use Rattle.record_layout.specs.Fields.{recordOf};
 ghost use Rattle.record_layout.specs.Writing.{written, writing};
-ghost use Rattle.record_layout.specs.Serving.Placing.{placing};
 use answers::Answer;
 use answers::Refusal;
 use record_layout::fields::Fields;
-use record_layout::kind::BODY_LIMIT;
 
 // Fields that make no readable record are BadRecord, then a short buffer is NoRoom; else the record stands at the
 // buffer's first byte, the rest stays, and the value is the bytes written.
 pub fn write(fields: Fields, list: &[u8], buf: &mut [u8]) -> Answer
     ensures { λ r. ⌜ written r (now (buf .exit)) ≡ writing base fields (now (list .entry)) (now (buf .entry)) ⌝ }
 {
-    if !record_check::readable(fields, list) {
+    let readable = record_check::readable(fields, list);
+    let length = 4 + fields.shape().head as usize + list.len();
+    if !readable {
         return Answer::Refused(Refusal::BadRecord);
     }
-    place(fields, list, buf)
-}
-
-// The record that fields and list make, readable or not: an end that lists no object is written too.
-fn place(fields: Fields, list: &[u8], buf: &mut [u8]) -> Answer
-    ensures { λ r. ⌜ written r (now (buf .exit)) ≡ placing base fields (now (list .entry)) (now (buf .entry)) ⌝ }
-{
-    let body = fields.shape().head as usize + list.len();
-    if BODY_LIMIT < body {
-        return Answer::Refused(Refusal::BadRecord);
-    }
-    let length = 4 + body;
     if buf.len() < length {
         return Answer::Refused(Refusal::NoRoom);
     }
