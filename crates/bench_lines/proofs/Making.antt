@@ -1,11 +1,12 @@
 -- A line made from its end on, and put into a buffer.
 use Prim.Native.Nat.{ℕ, suc, _+_, _-_, _<_, _≤_}
-use mathlib.Core.List.{List, _∷_, _++_}
+use mathlib.Core.List.{List, [], _∷_, _++_}
 use mathlib.Core.Path.{_≡_, refl, ap, _∙_}
 use mathlib.Core.Bool.{Bool, true, false}
+use native.Mathlib.Nat.{add-zero}
 use native.Mathlib.Omega.{arith}
 use lib.Dec.{ltb}
-use lib.ListN.{length, take, drop, set}
+use lib.ListN.{length, take, drop, set, take-append-drop}
 use lib.Seq.{length-take-le, set-split, drop-at}
 use borrow.Author.Tests.{lt-ltb, le-ltb, ltb-false}
 use Rattle.answers.specs.Numbers.{replyOf}
@@ -13,7 +14,7 @@ use Rattle.answers.specs.Order.{pick}
 use Rattle.answers.specs.declared.Answer.{Answer}
 use Rattle.answers.specs.declared.Answer.the-variants.{Accepted, Refused}
 use Rattle.answers.specs.declared.Refusal.the-variants.{BadSlot, BadObject, BadList, Busy, Idle, NotDeclared, BadCall, Released, Doomed, Wait, NoRoom, BadRecord}
-use Rattle.bench_lines.specs.Serving.Buffers.{lent, putAt}
+use Rattle.bench_lines.specs.Buffers.{lent, putAt}
 
 -- a byte in front of what stands from a place on
 pub byte-put : (l : List ℕ) (from byte : ℕ) → 0 < from → from ≤ length l → drop (from - 1) (set l (from - 1) byte) ≡ byte ∷ drop from l
@@ -41,6 +42,14 @@ module _ (text buffer : List ℕ) (at : ℕ) where
           → at + pick short (lent 0 buffer) (lent (length text) (take at buffer ++ (text ++ drop (at + length text) buffer))) .count ≤ length buffer
       go true e = omega arith
       go false e = ltb-false (length buffer) (at + length text) e
+
+-- no text changes nothing
+pub nothing-put : (buffer : List ℕ) (at : ℕ) → putAt [] buffer at ≡ lent 0 buffer
+nothing-put buffer at = go (ltb (length buffer) (at + 0))
+  where
+    go : (short : Bool) → pick short (lent 0 buffer) (lent 0 (take at buffer ++ drop (at + 0) buffer)) ≡ lent 0 buffer
+    go true = refl
+    go false = ap (lent 0) (ap (λ (n : ℕ). take at buffer ++ drop n buffer) (add-zero at) ∙ take-append-drop at buffer)
 
 -- the numbers of the table have two digits
 pub two-digits : (a : Answer) → replyOf a .number < 100

@@ -21,3 +21,7 @@ decimal n = digitsOf 20 (n / 10) ++ (digitOf n ∷ [])
 -- R40: the three numbers, a space between them, and the newline
 abbrev pub lineOf : ℕ → Reply → List ℕ
 lineOf event reply = decimal event ++ (32 ∷ (decimal (reply .number) ++ (32 ∷ (decimal (reply .value) ++ (10 ∷ [])))))
+
+-- the most bytes that a line has: an event's number of 20 digits, a number of 2, a value of 10, two spaces and the newline
+abbrev pub lineLimit : ℕ
+lineLimit = 35

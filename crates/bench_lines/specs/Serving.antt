@@ -1,3 +1,2 @@
--- What the contracts of lines and buffers say. What the bench promises to write names none of it.
+-- What the contract of a line in the making says. What is promised to a caller names none of it.
 pub mod Made
-pub mod Buffers

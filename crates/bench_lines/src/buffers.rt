@@ -1,6 +1,6 @@
 // What the bench does with its buffer of input between two reads.
 ghost use mathlib.Core.Path.{_≡_};
-ghost use Rattle.bench_lines.specs.Serving.Buffers.{lent, movedToFront};
+ghost use Rattle.bench_lines.specs.Buffers.{lent, movedToFront};
 
 // The bytes from a place on, moved to the front, and how many they are; those behind them stay.
 pub fn to_front(buf: &mut [u8], from: usize) -> usize

@@ -4,9 +4,9 @@ ghost use mathlib.Core.List.{_∷_, _++_};
 ghost use Prim.Native.Nat.{_+_, _<_, _≤_};
 ghost use lib.ListN.{length};
 ghost use Rattle.answers.specs.Numbers.{replyOf};
-ghost use Rattle.bench_lines.specs.Serving.Buffers.{lent, putAt, linePut};
-ghost use Rattle.bench_lines.specs.Lines.{digitOf, decimal, lineOf};
-ghost use Rattle.bench_lines.specs.Serving.Made.{lineLimit, made};
+ghost use Rattle.bench_lines.specs.Buffers.{lent, putAt, linePut};
+ghost use Rattle.bench_lines.specs.Lines.{digitOf, decimal, lineOf, lineLimit};
+ghost use Rattle.bench_lines.specs.Serving.Made.{made};
 
 pub mod buffers;
 
@@ -24,6 +24,7 @@ struct Line {
 // The line at a place of the buffer, and how many bytes it has; where there is no room nothing is written.
 pub fn put(event: u64, answer: Answer, buf: &mut [u8], at: usize) -> usize
     ensures { λ r. ⌜ lent r (now (buf .exit)) ≡ linePut event (replyOf answer) (now (buf .entry)) at ⌝ }
+    ensures short { λ r. ⌜ length (lineOf event (replyOf answer)) ≤ lineLimit ⌝ }
 {
     let line = Line::of(event, answer);
     let text = line.bytes;

@@ -5,7 +5,7 @@ use mathlib.Core.Path.{sym, ap, _∙_}
 use native.Mathlib.Omega.{arith}
 use lib.ListN.{length, take, drop}
 use Rattle.record_layout.proofs.PartFilled.{part-filled}
-use Rattle.bench_lines.specs.Serving.Buffers.{lent}
+use Rattle.bench_lines.specs.Buffers.{lent}
 use Rattle.bench_lines.proofs.Making.{no-place, in-place}
 use borrow.Author.Needs.{needs}
 use Rattle.bench_lines.proofs.place.Statement.{statement}

@@ -6,8 +6,8 @@ use native.Mathlib.Omega.{arith}
 use lib.ListN.{length, drop, length-drop}
 use lib.Seq.{take-all}
 use borrow.Author.Needs.{needs}
-use Rattle.bench_lines.specs.Serving.Buffers.{putAt}
-use Rattle.bench_lines.specs.Serving.Made.{lineLimit}
+use Rattle.bench_lines.specs.Buffers.{putAt}
+use Rattle.bench_lines.specs.Lines.{lineLimit}
 use Rattle.bench_lines.proofs.put.Statement.{statement}
 use Rattle.bench_lines.proofs.put.Tie as tie
 
@@ -23,8 +23,10 @@ returns c =
     let made = placed .before .before .before .before .before in
     let line = made .of .result in
     let a = made .before .before .args in
-    let all = take-all (lineLimit - line .from) (drop (line .from) (line .bytes)) (omega (arith, length-drop (line .from) (line .bytes), long made)) in
-    placed .place .ensures ∙ ap (λ (text : List ℕ). putAt text (a .buf .now) (a .at)) (all ∙ made .of .ensures .0)
+    let all = take-all (lineLimit - line .from) (drop (line .from) (line .bytes)) (omega (arith, length-drop (line .from) (line .bytes), long made)) in (
+      placed .place .ensures ∙ ap (λ (text : List ℕ). putAt text (a .buf .now) (a .at)) (all ∙ made .of .ensures .0),
+      omega (arith, ap length (made .of .ensures .0), length-drop (line .from) (line .bytes), long made),
+    )
 
 pub put-spec : {M : Type 1} → statement M
 put-spec =

@@ -4,10 +4,6 @@ use mathlib.Core.List.{List}
 use lib.ListN.{drop}
 use Rattle.bench_lines.specs.declared.Line.{Line}
 
--- the most bytes that a line has
-abbrev pub lineLimit : ℕ
-lineLimit = 35
-
 -- what is made of it: the bytes from its place on
 abbrev pub made : Line → List ℕ
 made line = drop (line .from) (line .bytes)

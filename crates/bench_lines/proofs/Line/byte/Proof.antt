@@ -4,7 +4,7 @@ use lib.ListN.{length}
 use borrow.Author.Needs.{needs}
 use native.Mathlib.Omega.{arith}
 use Rattle.bench_lines.proofs.Making.{byte-put}
-use Rattle.bench_lines.specs.Serving.Made.{lineLimit}
+use Rattle.bench_lines.specs.Lines.{lineLimit}
 use Rattle.bench_lines.proofs.Line.byte.Statement.{statement}
 use Rattle.bench_lines.proofs.Line.byte.Tie as tie
 

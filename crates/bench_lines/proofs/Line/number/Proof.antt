@@ -6,8 +6,8 @@ use native.Mathlib.Omega.{arith}
 use lib.ListN.{length}
 use lib.Seq.{append-snoc}
 use borrow.Author.Needs.{needs}
-use Rattle.bench_lines.specs.Lines.{digitOf, digitsOf}
-use Rattle.bench_lines.specs.Serving.Made.{lineLimit, made}
+use Rattle.bench_lines.specs.Lines.{digitOf, digitsOf, lineLimit}
+use Rattle.bench_lines.specs.Serving.Made.{made}
 use Rattle.bench_lines.proofs.Digits.{decimal-counted, digit-put, digit-counted, no-digits}
 use Rattle.bench_lines.proofs.Line.number.Statement.{statement}
 use Rattle.bench_lines.proofs.Line.number.Tie as tie

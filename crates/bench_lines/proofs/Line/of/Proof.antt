@@ -6,10 +6,9 @@ use native.Mathlib.Omega.{arith}
 use lib.ListN.{length}
 use borrow.Author.Needs.{needs}
 use Rattle.answers.specs.Numbers.{replyOf}
-use Rattle.bench_lines.specs.Lines.{decimal}
+use Rattle.bench_lines.specs.Lines.{decimal, lineLimit}
 use Rattle.bench_lines.proofs.Digits.{few-decimal}
 use Rattle.bench_lines.proofs.Making.{two-digits}
-use Rattle.bench_lines.specs.Serving.Made.{lineLimit}
 use Rattle.bench_lines.proofs.Line.of.Statement.{statement}
 use Rattle.bench_lines.proofs.Line.of.Tie as tie
 

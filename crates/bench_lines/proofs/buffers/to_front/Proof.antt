@@ -5,7 +5,7 @@ use mathlib.Core.Path.{_≡_, refl, sym, ap, _∙_}
 use native.Mathlib.Omega.{arith}
 use lib.ListN.{length, getD, drop, set, length-set, length-drop, drop-of-length-le}
 use borrow.Author.Needs.{needs}
-use Rattle.bench_lines.specs.Serving.Buffers.{lent}
+use Rattle.bench_lines.specs.Buffers.{lent}
 use Rattle.bench_lines.proofs.Moving.{movedSome, still-there, one-moved, all-moved}
 use Rattle.bench_lines.proofs.buffers.to_front.Statement.{statement}
 use Rattle.bench_lines.proofs.buffers.to_front.Tie as tie
