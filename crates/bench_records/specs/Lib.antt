@@ -1,3 +1,1 @@
 pub mod Records
-pub mod Bench
-pub mod SessionW

@@ -17,7 +17,6 @@ use Rattle.record_layout.specs.declared.fields.Reading.{Reading}
 use Rattle.record_layout.specs.declared.fields.Reading
 use Rattle.rules.specs.Tables.{State, freshTables}
 use Rattle.rules.specs.Steps.{Outcome, readStep}
-use Rattle.machine.specs.Views.{view}
 use Rattle.bench_records.specs.declared.Answered.{Answered}
 
 -- what a record gives: the tables, the reply, whether it prints a line, whether it stops the program, and the bytes that it takes
@@ -28,8 +27,8 @@ pub record Answering : Type 0 where
   pub stops : Bool
   pub taken : ℕ
 
-abbrev pub answered : Answered → Answering
-answered r = record { tables = view (r .tables); reply = replyOf (r .answer); prints = r .prints; stops = r .stops; taken = r .taken }
+abbrev pub answered : State → Answered → Answering
+answered tables r = record { tables = tables; reply = replyOf (r .answer); prints = r .prints; stops = r .stops; taken = r .taken }
 
 -- the first so many words of a list
 unfoldable pub wordsOf : ℕ → List ℕ → List ℕ

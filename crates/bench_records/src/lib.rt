@@ -1,8 +1,8 @@
-// The bench's work on records: what the first one gives, and what each further one gives.
+// The bench's work on records, in place over the pump's memory: what the first one gives, and what each further one gives.
 ghost use mathlib.Core.Path.{_≡_};
 ghost use lib.ListN.{length};
 ghost use Rattle.counters.specs.Sizes.{base};
-ghost use Rattle.machine.specs.Views.{view};
+ghost use Rattle.pump.specs.Held.{held};
 ghost use Rattle.bench_records.specs.Records.{answered, beginsWith, notFresh, firstStep, benchStep};
 
 mod records;
@@ -10,14 +10,12 @@ mod records;
 use answers::Answer;
 use answers::Refusal;
 use counters::Version;
-use machine::Tables;
 use record_layout::fields::Fields;
 use record_layout::fields::Reading;
 
-// What a record gives: the tables, the answer, whether it prints a line, whether it stops the program, and the bytes
-// that it takes.
+// What a record gives beside the tables: the answer, whether it prints a line, whether it stops the program, and the
+// bytes that it takes.
 pub struct Answered {
-    pub tables: Tables,
     pub answer: Answer,
     pub prints: bool,
     pub stops: bool,
@@ -25,8 +23,13 @@ pub struct Answered {
 }
 
 // The first record must be fresh.
-pub fn first(bytes: &[u8]) -> Answered
-    ensures { λ r. ⌜ answered r ≡ firstStep base (now (bytes .entry)) ⌝ }
+pub fn first(
+    words: &mut [u32; 864],
+    counts: &mut [u8; 768],
+    marks: &mut [bool; 1168],
+    bytes: &[u8],
+) -> Answered
+    ensures { λ r. ⌜ answered (held (now (words .exit)) (now (counts .exit)) (now (marks .exit))) r ≡ firstStep base (now (bytes .entry)) ⌝ }
 {
     let read = record_read::read(bytes);
     let Reading::Record {
@@ -35,25 +38,35 @@ pub fn first(bytes: &[u8]) -> Answered
         taken,
     } = read
     else {
-        return not_fresh(read.refusal());
+        return not_fresh(words, counts, marks, read.refusal());
     };
     match fields {
-        Fields::Fresh { first } => fresh(first, &bytes[list..taken], taken),
-        Fields::Event(_) => not_fresh(Refusal::BadRecord),
+        Fields::Fresh { first } => {
+            fresh(words, counts, marks, first, &bytes[list..taken], taken)
+        }
+        Fields::Event(_) => not_fresh(words, counts, marks, Refusal::BadRecord),
         Fields::Ended {
             tick: _,
             slot: _,
             rollback: _,
-        } => not_fresh(Refusal::BadRecord),
+        } => not_fresh(words, counts, marks, Refusal::BadRecord),
     }
 }
 
-fn fresh(first: Version, list: &[u8], taken: usize) -> Answered
+fn fresh(
+    words: &mut [u32; 864],
+    counts: &mut [u8; 768],
+    marks: &mut [bool; 1168],
+    first: Version,
+    list: &[u8],
+    taken: usize,
+) -> Answered
     requires { ⌜ length (now list) ≡ 96 ⌝ }
-    ensures { λ r. ⌜ answered r ≡ beginsWith base first (now (list .entry)) taken ⌝ }
+    ensures { λ r. ⌜ answered (held (now (words .exit)) (now (counts .exit)) (now (marks .exit))) r ≡ beginsWith base first (now (list .entry)) taken ⌝ }
 {
+    let given = records::words(list);
+    pump::fresh(words, counts, marks, first, &given);
     Answered {
-        tables: events::fresh(first, records::words(list)),
         answer: Answer::Accepted(0),
         prints: false,
         stops: false,
@@ -62,11 +75,17 @@ fn fresh(first: Version, list: &[u8], taken: usize) -> Answered
 }
 
 // There are no tables to go on with, and zeros stand for them.
-fn not_fresh(refusal: Refusal) -> Answered
-    ensures { λ r. ⌜ answered r ≡ notFresh base refusal ⌝ }
+fn not_fresh(
+    words: &mut [u32; 864],
+    counts: &mut [u8; 768],
+    marks: &mut [bool; 1168],
+    refusal: Refusal,
+) -> Answered
+    ensures { λ r. ⌜ answered (held (now (words .exit)) (now (counts .exit)) (now (marks .exit))) r ≡ notFresh base refusal ⌝ }
 {
+    let zeros = [0u32; 24];
+    pump::fresh(words, counts, marks, Version(0), &zeros);
     Answered {
-        tables: events::fresh(Version(0), [0; 24]),
         answer: Answer::Refused(refusal),
         prints: true,
         stops: true,
@@ -75,16 +94,19 @@ fn not_fresh(refusal: Refusal) -> Answered
 }
 
 // A record behind the first, or the end of the input. Each end is offered a buffer of 130 bytes anew.
-pub fn next(tables: Tables, bytes: &[u8]) -> Answered
-    ensures { λ r. ⌜ answered r ≡ benchStep base (view tables) (now (bytes .entry)) ⌝ }
+pub fn next(
+    words: &mut [u32; 864],
+    counts: &mut [u8; 768],
+    marks: &mut [bool; 1168],
+    bytes: &[u8],
+) -> Answered
+    ensures { λ r. ⌜ answered (held (now (words .exit)) (now (counts .exit)) (now (marks .exit))) r ≡ benchStep base (held (now (words .entry)) (now (counts .entry)) (now (marks .entry))) (now (bytes .entry)) ⌝ }
 {
     let mut buffer = [0u8; 130];
     let read = record_read::read(bytes);
-    let stepped = events::step_read(tables, read, record_read::list_of(read, bytes), &mut buffer);
-    let after = stepped.tables;
-    let answer = stepped.answer;
+    let list = record_read::list_of(read, bytes);
+    let answer = pump::events::step_read(words, counts, marks, read, list, &mut buffer);
     Answered {
-        tables: after,
         answer,
         prints: 0 < bytes.len(),
         stops: records::stops(read),

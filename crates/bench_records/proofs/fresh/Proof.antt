@@ -12,9 +12,15 @@ use Rattle.bench_records.proofs.fresh.Tie as tie
 
 returns : tie.Need-returns
 returns c =
-    let a = c .before .before .before .args in
-    let tables = c .fresh .ensures ∙ ap (λ (words : List ℕ). freshTables base words (a .first .0)) (c .before .words .ensures) in
+    let words = c .before .before .before .before .before in
+    let a = words .before .before .args in
+    let tables = c .fresh .ensures ∙ ap (λ (words : List ℕ). freshTables base words (a .first .0)) (words .words .ensures) in
     λ i. record { tables = tables i; reply = accepted 0; prints = false; stops = false; taken = a .taken }
 
 pub fresh-spec : {M : Type 1} → statement M
-fresh-spec = tie.close (tie.spec (λ c κs. search needs) (λ c κs. search needs) returns)
+fresh-spec =
+    tie.close
+    (tie.spec
+    (λ c κs. search needs)
+    (λ c κs. search needs)
+    returns)

@@ -5,7 +5,8 @@ use mathlib.Core.Path.{ap, _∙_}
 use lib.Dec.{ltb}
 use lib.ListN.{length}
 use Rattle.counters.specs.Sizes.{base}
-use Rattle.machine.specs.Views.{view}
+use Rattle.pump.specs.Held.{held}
+use Rattle.record_layout.proofs.Telling.{reading-tells}
 use Rattle.record_layout.specs.Reading.{listIn}
 use Rattle.record_layout.specs.declared.fields.Reading.{Reading}
 use Rattle.rules.specs.Steps.{readStep}
@@ -16,16 +17,18 @@ use Rattle.bench_records.proofs.next.Tie as tie
 
 returns : tie.Need-returns
 returns c =
-    let stepped = c .before .before .before .before in
-    let listed = stepped .before .before in
+    let stepped = c .before .before .before in
+    let listed = stepped .before .before .before .before .before in
     let read = listed .before in
     let a = read .before .before .args in
+    let same = reading-tells _ _ (read .read .ensures) in
+    let tables = held (a .words .now) (a .counts .now) (a .marks .now) in
     let outcome =
     stepped .step-read .ensures
-    ∙ ap (λ (l : List ℕ). readStep base (view (a .tables)) (read .read .result) l endBuffer) (listed .list-of .ensures .bytes)
-    ∙ ap (λ (r : Reading). readStep base (view (a .tables)) r (listIn r (a .bytes .now)) endBuffer) (read .read .ensures) in
-    let stops = c .before .stops .ensures ∙ ap stopsAt (read .read .ensures) in
-    let taken = c .taken .ensures ∙ ap takenBy (read .read .ensures) in
+    ∙ ap (λ (l : List ℕ). readStep base tables (read .read .result) l endBuffer) (listed .list-of .ensures .bytes)
+    ∙ ap (λ (r : Reading). readStep base tables r (listIn r (a .bytes .now)) endBuffer) same in
+    let stops = c .before .stops .ensures ∙ ap stopsAt same in
+    let taken = c .taken .ensures ∙ ap takenBy same in
     λ i.
     record {
       tables = outcome i .tables;
