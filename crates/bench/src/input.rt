@@ -1,34 +1,26 @@
-// Standard input, read ahead in large pieces.
-ghost use Prim.Native.Nat.{_≤_};
+// Standard input, behind the bytes that are at hand.
+ghost use Prim.Native.Nat.{_<_};
 ghost use lib.ListN.{length};
+ghost use Rattle.bench.specs.Kept.{Kept};
+use libc::STDIN_FILENO;
 
-// The bytes at hand: those of the buffer from one place to another.
-pub struct Hand {
-    pub from: usize,
-    pub end: usize,
+// The bytes at hand with those that were read, whether the input has ended, and whether reading has failed.
+pub struct Input {
+    pub hand: usize,
+    pub ended: bool,
+    pub failed: bool,
 }
 
-// The most bytes that a record has.
-const RECORD_LIMIT: usize = 4 + record_layout::kind::BODY_LIMIT;
-
-// Where a record may reach past the bytes at hand, they move to the front and the buffer is filled again. A buffer that
-// is not full to its end has the end of the input.
-pub fn fill(buffer: &mut [u8], hand: Hand) -> Hand
-    requires { ⌜ (hand .from ≤ hand .end) × (hand .end ≤ length (now buffer)) ⌝ }
-    ensures { λ r. ⌜ (r .from ≤ r .end) × (r .end ≤ length (now (buffer .exit))) ⌝ }
+// One read: it gives what is there, and waits only where nothing is. The bytes at hand stay as they were.
+pub fn more(buffer: &mut [u8], hand: usize) -> Input
+    requires { ⌜ hand < length (now buffer) ⌝ }
+    ensures { λ r. ⌜ Kept r hand (now (buffer .entry)) (now (buffer .exit)) ⌝ }
 {
-    let from = hand.from;
-    let end = hand.end;
-    if end < buffer.len() {
-        return hand;
-    }
-    if RECORD_LIMIT <= end - from {
-        return hand;
-    }
-    let kept = bench_lines::buffers::to_front(buffer, from);
-    let more = io::read_full(0, &mut buffer[kept..]);
-    Hand {
-        from: 0,
-        end: kept + more,
+    let got = libc::read(STDIN_FILENO, &mut buffer[hand..]);
+    let count = io::count(got, &buffer[hand..]);
+    Input {
+        hand: hand + count,
+        ended: count == 0,
+        failed: got < 0,
     }
 }

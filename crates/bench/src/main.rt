@@ -1,49 +1,40 @@
-// The bench program: it reads records from standard input and prints one line for each event.
-ghost use Prim.Native.Nat.{_<_, _≤_};
-
+// The bench program: it reads records from standard input and prints one line for each event, as soon as its record is
+// whole.
 mod input;
 mod output;
 
-use input::Hand;
-
-// The number behind that of every event.
-const LAST: u64 = 18446744073709551615;
+// The language asks every loop to end; at a turn a nanosecond this one takes 584 years.
+const TURNS: u64 = 18446744073709551615;
 
 fn main() {
     let mut bytes = io::large_buffer();
     let mut lines = io::large_buffer();
-    let read = io::read_full(0, &mut bytes);
-    let first = bench_records::first(&bytes[..read]);
-    let answer = first.answer;
-    let mut used = output::put(0, first.prints, answer, &mut lines, 0);
-    let mut tables = first.tables;
-    let mut hand = Hand {
-        from: first.taken,
-        end: read,
-    };
-    let mut event = after(0, first.stops);
-    while event < LAST {
-        hand = input::fill(&mut bytes, hand);
-        let from = hand.from;
-        let end = hand.end;
-        let next = bench_records::next(tables, &bytes[from..end]);
-        let answer = next.answer;
-        used = output::put(event, next.prints, answer, &mut lines, used);
-        let given = next.tables;
-        tables = given;
-        hand = Hand {
-            from: from + next.taken,
-            end,
-        };
-        event = after(event, next.stops);
+    let mut bench = bench_play::at_first();
+    let mut hand: usize = 0;
+    let mut ended = false;
+    let mut turns: u64 = 0;
+    while turns < TURNS {
+        turns = turns + 1;
+        let turned = bench_play::turn(bench, &mut bytes[..hand], ended, &mut lines);
+        let behind = turned.bench;
+        bench = behind;
+        hand = turned.kept;
+        if !output::write(&lines, turned.used) {
+            os::fail(b"bench: output");
+            return;
+        }
+        if bench.stopped {
+            return;
+        }
+        if !turned.waits {
+            continue;
+        }
+        let read = input::more(&mut bytes, hand);
+        if read.failed {
+            os::fail(b"bench: input");
+            return;
+        }
+        hand = read.hand;
+        ended = read.ended;
     }
-    io::write_all(1, &lines[..used]);
-}
-
-// The number of the next event, or the last where the program stops.
-fn after(event: u64, stops: bool) -> u64
-    requires { ⌜ event < 18446744073709551615 ⌝ }
-    ensures { λ r. ⌜ (event < r) × (r ≤ 18446744073709551615) ⌝ }
-{
-    if stops { LAST } else { event + 1 }
 }
