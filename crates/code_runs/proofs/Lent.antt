@@ -1,4 +1,4 @@
--- A chain of steps in place is the same fold: the memory that one leaves is the memory that the next is lent.
+-- A chain of steps in place is the same chain: the memory that one leaves is the memory that the next is lent.
 use Prim.Native.Nat.{ℕ}
 use mathlib.Core.Bool.{Bool}
 use mathlib.Core.List.{List}

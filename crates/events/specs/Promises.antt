@@ -1,4 +1,4 @@
--- The promises of fresh, of a step by fields and of a step by bytes, which a fold of steps cites.
+-- The promises of fresh, of a step by fields and of a step by bytes, which a chain of steps cites.
 use Prim.Native.Nat.{ℕ}
 use mathlib.Core.List.{List}
 use mathlib.Core.Path.{_≡_}

@@ -1,4 +1,4 @@
--- Folding the steps of the machine over what is handed in, from its own fresh: each step goes in with the tables that the one before returned.
+-- A chain of the machine's steps over what is handed in, from its own fresh: each step goes in with the tables that the one before returned.
 use Prim.Native.Nat.{ℕ}
 use mathlib.Core.List.{List, [], _∷_, map}
 use Rattle.answers.specs.Numbers.{replyOf}
@@ -22,12 +22,12 @@ pub record Given : Type 0 where
   pub buffer : List ℕ
 
 -- each step meets its promise on the tables that it was handed, and hands on those that it returned
-abbrev pub Folded : Tables → List Handed → List Given → Type 0
-Folded t [] [] = Unit {0}
-Folded t [] (given ∷ rest) = ⊥
-Folded t (handed ∷ events) [] = ⊥
-Folded t (handed ∷ events) (given ∷ rest) =
-    StepGives t (handed .fields) (handed .list) (handed .buffer) (given .stepped) (given .buffer) × Folded (given .stepped .tables) events rest
+abbrev pub Chained : Tables → List Handed → List Given → Type 0
+Chained t [] [] = Unit {0}
+Chained t [] (given ∷ rest) = ⊥
+Chained t (handed ∷ events) [] = ⊥
+Chained t (handed ∷ events) (given ∷ rest) =
+    StepGives t (handed .fields) (handed .list) (handed .buffer) (given .stepped) (given .buffer) × Chained (given .stepped .tables) events rest
 
 abbrev pub lastTables : Tables → List Given → Tables
 lastTables t [] = t
@@ -54,7 +54,7 @@ pub record CodeRuns (words : List ℕ) (first : ℕ) (events : List Handed) : Ty
   pub fresh : Tables
   pub given : List Given
   pub begins : FreshGives first words fresh
-  pub steps : Folded fresh events given
+  pub steps : Chained fresh events given
 
 -- the tables and the history that it leaves
 abbrev pub codeRun : {words : List ℕ} {first : ℕ} {events : List Handed} → CodeRuns words first events → Run
@@ -73,10 +73,10 @@ handedRead (Reading.Refused refusal) list buffer = record { fields = Fields.Fres
 abbrev pub handedOf : HandedBytes → Handed
 handedOf handed = handedRead (reading base (handed .bytes)) (listing base (handed .bytes)) (handed .buffer)
 
--- the same fold by `step_record`
-abbrev pub FoldedRecords : Tables → List HandedBytes → List Given → Type 0
-FoldedRecords t [] [] = Unit {0}
-FoldedRecords t [] (given ∷ rest) = ⊥
-FoldedRecords t (handed ∷ records) [] = ⊥
-FoldedRecords t (handed ∷ records) (given ∷ rest) =
-    RecordGives t (handed .bytes) (handed .buffer) (given .stepped) (given .buffer) × FoldedRecords (given .stepped .tables) records rest
+-- the same chain by `step_record`
+abbrev pub ChainedRecords : Tables → List HandedBytes → List Given → Type 0
+ChainedRecords t [] [] = Unit {0}
+ChainedRecords t [] (given ∷ rest) = ⊥
+ChainedRecords t (handed ∷ records) [] = ⊥
+ChainedRecords t (handed ∷ records) (given ∷ rest) =
+    RecordGives t (handed .bytes) (handed .buffer) (given .stepped) (given .buffer) × ChainedRecords (given .stepped .tables) records rest
