@@ -3,7 +3,7 @@ from pathlib import Path
 from typing import Iterator, List, Tuple
 
 from people.composing import BadSession, compose
-from people.running import ROOT, run
+from people.running import ROOT, Failed, run
 
 SESSIONS = ROOT / "sessions"
 
@@ -14,10 +14,11 @@ def names(folder: Path) -> List[str]:
 
 
 def check(folder: Path = SESSIONS) -> Iterator[Tuple[str, bool]]:
-    """For each session its name with what came of it, and whether that is as expected."""
-    for name in names(folder):
-        found = difference(folder / f"{name}.session", folder / f"{name}.lines")
-        yield f"{name}: {found or 'as expected'}", not found
+    """For each session its place among all and its name with what came of it, and whether that is as expected."""
+    found = names(folder)
+    for place, name in enumerate(found, 1):
+        differs = difference(folder / f"{name}.session", folder / f"{name}.lines")
+        yield f"{place} of {len(found)}, {name}: {differs or 'as expected'}", not differs
 
 
 def difference(session: Path, expected: Path) -> str:
@@ -27,10 +28,12 @@ def difference(session: Path, expected: Path) -> str:
             return f"{path.name} is missing"
     try:
         records = compose(session.read_text(encoding="utf-8"))
+        printed = list(run(records))
     except BadSession as bad:
         return f"line {bad.bad_lines[0].number} can't be composed"
+    except Failed as failure:
+        return str(failure)
     wanted = expected.read_text(encoding="utf-8").splitlines()
-    printed = run(records)
     for place in range(max(len(wanted), len(printed))):
         pair = [lines[place] if place < len(lines) else "nothing" for lines in (printed, wanted)]
         if pair[0] != pair[1]:

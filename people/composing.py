@@ -1,7 +1,8 @@
 """Composing: a session written as lines becomes records."""
 import re
 from dataclasses import dataclass
-from typing import Callable, Dict, List, Tuple
+from difflib import get_close_matches
+from typing import Callable, Dict, Iterable, List, Tuple, Union
 
 from people.layout import (CALL_NAMES, HIGHEST_BYTE, HIGHEST_WORD, LONGEST_BODY, OBJECTS, Call, Commit, Fresh, Release,
                            Rollback, Start, write)
@@ -9,6 +10,10 @@ from people.layout import (CALL_NAMES, HIGHEST_BYTE, HIGHEST_WORD, LONGEST_BODY,
 NUMBER = re.compile(r"0[xX][0-9a-fA-F]{1,20}|[0-9]{1,20}")
 HEX_DIGITS = re.compile(r"[0-9a-fA-F]+")
 MOST_PAIRS = (LONGEST_BODY - 2) // 2
+# Some editors put it before a text.
+BYTE_ORDER_MARK = "\ufeff"
+# The letters of a bad line that are shown.
+MOST_SHOWN = 500
 
 
 class Unexpected(Exception):
@@ -23,6 +28,14 @@ class BadLine:
     line: str
     form: str
     reason: str
+
+    def __str__(self) -> str:
+        return f"line {self.number}: {shortened(self.line)}\n    expected {self.form}, but {self.reason}"
+
+
+def shortened(line: str) -> str:
+    """A line as far as a message has room for it."""
+    return line if len(line) <= MOST_SHOWN else line[:MOST_SHOWN] + " .."
 
 
 class BadSession(Exception):
@@ -87,8 +100,17 @@ def compose_start(words: List[str]) -> bytes:
 def compose_call(words: List[str]) -> bytes:
     take(words, 3, 4)
     slot, object_number = one_byte(words[0]), one_byte(words[1])
-    kind = CALL_NAMES.index(words[2]) if words[2] in CALL_NAMES else one_byte(words[2])
-    return write(Call(slot, object_number, kind, four_bytes(words[3]) if len(words) == 4 else 0))
+    return write(Call(slot, object_number, call_kind(words[2]), four_bytes(words[3]) if len(words) == 4 else 0))
+
+
+def call_kind(word: str) -> int:
+    """The number of a kind of calls, by its name or as it is."""
+    if word in CALL_NAMES:
+        return CALL_NAMES.index(word)
+    try:
+        return one_byte(word)
+    except Unexpected:
+        raise Unexpected(f"'{word}' is no kind: the kinds are {', '.join(CALL_NAMES)}, or a number up to {HIGHEST_BYTE}") from None
 
 
 def compose_release(words: List[str]) -> bytes:
@@ -128,21 +150,32 @@ ITEMS: Dict[str, Tuple[Callable[[List[str]], bytes], str]] = {
 }
 
 
+def closest(word: str, known: Iterable[str]) -> str:
+    """What is said of the known word that is most like another, if one is."""
+    found = get_close_matches(word.lower(), list(known), 1)
+    return f"; the closest is '{found[0]}'" if found else ""
+
+
+def compose_line(line_number: int, line: str) -> Union[bytes, BadLine]:
+    """The bytes of a line's item, none where it has none, or why it is bad."""
+    if line_number == 1 and line.startswith(BYTE_ORDER_MARK):
+        line = line[len(BYTE_ORDER_MARK):]
+    words = line.split("#", 1)[0].split()
+    if not words:
+        return b""
+    item, form = ITEMS.get(words[0], (None, " or ".join(ITEMS)))
+    try:
+        if item is None:
+            raise Unexpected(f"'{words[0]}' is none of these{closest(words[0], ITEMS)}")
+        return item(words[1:])
+    except Unexpected as reason:
+        return BadLine(line_number, line.strip(), form, str(reason))
+
+
 def compose(text: str) -> bytes:
     """The records of a session, if every line of it is good."""
-    parts: List[bytes] = []
-    bad_lines: List[BadLine] = []
-    for line_number, line in enumerate(text.split("\n"), 1):
-        words = line.split("#", 1)[0].split()
-        if not words:
-            continue
-        item, form = ITEMS.get(words[0], (None, " or ".join(ITEMS)))
-        try:
-            if item is None:
-                raise Unexpected(f"'{words[0]}' is none of these")
-            parts.append(item(words[1:]))
-        except Unexpected as reason:
-            bad_lines.append(BadLine(line_number, line.strip(), form, str(reason)))
+    composed = [compose_line(line_number, line) for line_number, line in enumerate(text.split("\n"), 1)]
+    bad_lines = [line for line in composed if isinstance(line, BadLine)]
     if bad_lines:
         raise BadSession(bad_lines)
-    return b"".join(parts)
+    return b"".join(composed)

@@ -12,6 +12,9 @@ from people.layout import Call, End, Event, Rollback, Start
 
 VERSIONS = 1 << 32
 COUNTS = 256
+# The end record: what stands before its entries, and each entry.
+END_BYTES = 10
+ENTRY_BYTES = 5
 
 
 class State(Enum):
@@ -39,8 +42,9 @@ class Claim:
 
 @dataclass
 class Effect:
-    """What an accepted event did, beside its answer."""
+    """What an accepted event did, and the value that it gives; whoever follows words knows that of a call."""
 
+    value: int = 0
     claims: List[Claim] = field(default_factory=list)
     let_go: List[Claim] = field(default_factory=list)
     restored: List[Claim] = field(default_factory=list)
@@ -72,6 +76,9 @@ class Followed:
             return State.SPOILED
         ahead = claim.place - self.let_go[claim.object_number]
         return State.LET_GO if ahead <= 0 else State.TURN if ahead == 1 else State.WAITS
+
+    def states(self) -> Dict[Claim, State]:
+        return {claim: self.state(claim) for claim in self.claims()}
 
     def waits_to_end(self, claim: Claim) -> bool:
         """Whether an earlier transaction on the object has not ended."""
@@ -112,6 +119,7 @@ class Followed:
 
     def _end(self, end: End) -> Effect:
         effect = Effect(claims=self.claims_of(end.slot))
+        effect.value = END_BYTES + ENTRY_BYTES * len(effect.claims)
         self.live.pop(end.slot, None)
         if isinstance(end, Rollback):
             effect.restored = [claim for claim in effect.claims if claim.called and not claim.spoiled]

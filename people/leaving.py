@@ -3,36 +3,40 @@ import struct
 from typing import Dict, Iterator, List, Optional, Tuple
 
 from people.answers import ACCEPTED
-from people.following import VERSIONS, Claim, Followed
-from people.layout import OBJECTS, SLOTS, Call, Commit, Committed, End, RolledBack
-from people.playing import pair
-from people.reading import read_record
+from people.following import VERSIONS, Claim, Effect, Followed
+from people.layout import OBJECTS, SLOTS, Call, Commit, Committed, End, Event, Fresh, RolledBack
+from people.playing import Played, pair
 
 
-def act(call: Call, word: int) -> int:
-    """The word after a call: read, write, add, spend."""
-    spent = word - call.argument if word >= call.argument else word
-    return (word, call.argument, (word + call.argument) % VERSIONS, spent)[call.call_kind]
+def act(call: Call, word: int) -> Tuple[int, int]:
+    """The word after a call and the value that it gives: read, write, add, spend."""
+    total, covered = (word + call.argument) % VERSIONS, int(call.argument <= word)
+    spent = word - call.argument if covered else word
+    return ((word, word), (call.argument, 0), (total, total), (spent, covered))[call.call_kind]
 
 
 class Left:
     """The tables that accepted events leave, beside what is followed of them: the words and the saved words."""
 
-    def __init__(self, first_version: int, words: List[int]):
-        self.followed = Followed(first_version)
-        self.words = words
+    def __init__(self, fresh: Fresh):
+        self.followed = Followed(fresh.first_version)
+        self.words = list(fresh.words)
         self.saved: Dict[Claim, int] = {}
 
-    def accept(self, event) -> List[Claim]:
-        """Takes an accepted event, and gives the claims that it was about."""
-        if isinstance(event, Call):
-            claim, word = self.followed.claim(event.slot, event.object_number), self.words[event.object_number]
-            self.saved.setdefault(claim, word)
-            self.words[event.object_number] = act(event, word)
+    def accept(self, event: Event) -> Effect:
+        """Takes an accepted event, and says what it did."""
         effect = self.followed.accept(event)
+        if isinstance(event, Call):
+            word = self.words[event.object_number]
+            for claim in effect.claims:
+                self.saved.setdefault(claim, word)
+            self.words[event.object_number], effect.value = act(event, word)
         for claim in effect.restored:
             self.words[claim.object_number] = self.saved[claim]
-        return effect.claims
+        if isinstance(event, End):
+            for claim in effect.claims:
+                self.saved.pop(claim, None)
+        return effect
 
     def version(self, place: int) -> int:
         return (self.followed.first_version + place) % VERSIONS
@@ -67,37 +71,44 @@ class Left:
         return struct.pack(f"<{len(words)}I", *words) + bytes([*counts, *live[::OBJECTS], *declared, *called, *spoiled])
 
 
-def end_record(end: End, claims: List[Claim]) -> str:
+def end_record(end: End, claims: List[Claim]) -> bytes:
     kind = (Committed if isinstance(end, Commit) else RolledBack).KIND
     entries = [struct.pack("<BI", claim.object_number, claim.version) for claim in claims]
     body = struct.pack("<IBB", end.tick, end.slot, len(entries)) + b"".join(entries)
-    return (struct.pack("<HH", len(body), kind) + body).hex(" ").upper()
+    return struct.pack("<HH", len(body), kind) + body
+
+
+def in_hexadecimal(data: bytes) -> str:
+    return data.hex(" ").upper()
+
+
+def ends(played: Played, left: Left) -> Iterator[Tuple[int, bytes]]:
+    """The bytes of each accepted end behind its event's number, while the tables are left."""
+    for step in played.steps:
+        if step.answer == ACCEPTED:
+            effect = left.accept(step.content)
+            if isinstance(step.content, End):
+                yield step.number, end_record(step.content, effect.claims)
 
 
 def ends_and_left(records: bytes, lines: List[str]) -> Tuple[Dict[int, str], Optional[Left]]:
-    """The bytes of each accepted end, by its event's number, and what is left at last; nothing where the session does not begin."""
+    """The digits of each accepted end, and what is left at last; nothing where the session does not begin."""
     played = pair(records, lines)
-    if lines and played.steps[0].number == 0:
-        return {}, None
-    left, ends = Left(played.first_version, list(read_record(records).words)), {}
-    for step in played.steps:
-        if step.answer == ACCEPTED:
-            claims = left.accept(step.content)
-            if isinstance(step.content, End):
-                ends[step.number] = end_record(step.content, claims)
-    return ends, left
+    left = Left(played.fresh)
+    written = {number: in_hexadecimal(data) for number, data in ends(played, left)}
+    return written, left if played.begins else None
 
 
 def left_behind(records: bytes, lines: List[str]) -> List[str]:
     """The ends and the tables in the words of the library's players."""
-    ends, left = ends_and_left(records, lines)
-    return [*ends.values(), *(left.tables() if left else ())]
+    written, left = ends_and_left(records, lines)
+    return [*written.values(), *(left.tables() if left else ())]
 
 
 def written_out(records: bytes, lines: List[str]) -> List[str]:
     """What a device writes: the lines, behind that of each accepted end its bytes, and at last the words of memory that are not 0."""
-    ends, left = ends_and_left(records, lines)
+    written, left = ends_and_left(records, lines)
     numbers = [int(line.split()[0]) for line in lines]
     memory = struct.iter_unpack("<I", left.memory() if left else b"")
-    return [said for number, line in zip(numbers, lines) for said in (line, ends.get(number)) if said] + [
+    return [said for number, line in zip(numbers, lines) for said in (line, written.get(number)) if said] + [
         f"{place:04X} {word:08X}" for place, (word,) in enumerate(memory) if word]

@@ -1,7 +1,7 @@
 """Reading: bytes become the fields of a record, or the check that they fail."""
 import struct
 from dataclasses import dataclass
-from typing import List, Optional, Union
+from typing import Iterable, Iterator, Optional, Union
 
 from people.layout import (HEAD_BYTES, LONGEST_BODY, OBJECTS, SLOTS, Call, Commit, Committed, Fresh, Record, Release,
                            RolledBack, Rollback, Start)
@@ -29,7 +29,11 @@ class Piece:
     """A record in a run of bytes, or what stands in its place."""
 
     offset: int
+    data: bytes
     content: Union[Record, Fault]
+
+    def end(self) -> int:
+        return self.offset + len(self.data)
 
 
 def read_record(data: bytes) -> Union[Record, Fault]:
@@ -54,17 +58,34 @@ def read_record(data: bytes) -> Union[Record, Fault]:
     return fields(kind, body)
 
 
-def read_run(data: bytes) -> List[Piece]:
-    """All records of a run; a frame that fails is the last piece, since nothing says where it ends."""
-    pieces = []
-    offset = 0
-    while offset < len(data):
-        content = read_record(data[offset:])
-        pieces.append(Piece(offset, content))
+def read_run(parts: Iterable[bytes]) -> Iterator[Piece]:
+    """All records of a run that comes in parts, each as soon as it is whole; no bytes at all are no record. A frame that fails is the
+    last piece, since nothing says where it ends."""
+    source = iter(parts)
+    held, at, offset = b"", 0, 0
+    while True:
+        while len(held) - at < bytes_asked(held, at):
+            part = next(source, None)
+            if part is None:
+                break
+            held, at = held[at:] + part, 0
+        if at == len(held) and offset > 0:
+            return
+        data = held[at:at + bytes_asked(held, at)]
+        content = read_record(data)
+        yield Piece(offset, data, content)
         if isinstance(content, Fault) and content.bytes_taken is None:
-            break
-        offset += HEAD_BYTES + struct.unpack_from("<H", data, offset)[0]
-    return pieces
+            return
+        at += len(data)
+        offset += len(data)
+
+
+def bytes_asked(held: bytes, at: int) -> int:
+    """How many bytes decide what stands at a place: a head, and the body if it may be that long."""
+    if len(held) - at < HEAD_BYTES:
+        return HEAD_BYTES
+    length = held[at] + (held[at + 1] << 8)
+    return HEAD_BYTES + length if length <= LONGEST_BODY else HEAD_BYTES
 
 
 def wrong_length(kind: int, body: bytes) -> str:

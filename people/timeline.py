@@ -1,11 +1,12 @@
 """The timeline: a row for each transaction at each of its objects, a column for each event."""
 from dataclasses import dataclass, field
-from typing import Dict, List, Optional
+from typing import Dict, Iterable, Iterator, List, Optional
 
 from people.answers import ACCEPTED, DOOMED, WAIT
 from people.following import Claim, Effect, Followed, State
 from people.layout import Call, Commit, End, Release, Rollback, Start
 from people.playing import Played, Step
+from people.sections import WHOLE, Section
 
 STARTS, CALLS, LETS_GO, WAITS, IS_REFUSED_AS_DOOMED, IS_REFUSED = "s", "o", ">", "w", "x", "?"
 IS_SPOILED, COMMITS, RESTORES, ROLLS_BACK = "!", "C", "R", "r"
@@ -34,39 +35,49 @@ class Cell:
     after: Optional[State]
 
 
+@dataclass(frozen=True)
+class Column:
+    """An event and the cells of all who are live there; one outside the section has none."""
+
+    step: Step
+    shown: bool
+    cells: Dict[Claim, Cell] = field(default_factory=dict)
+
+
 @dataclass
 class Row:
-    """A transaction at one of its objects; cells by the column of the event."""
+    """A transaction at one of its objects; cells by the place of the column."""
 
     claim: Claim
     cells: Dict[int, Cell] = field(default_factory=dict)
 
-    def label(self) -> str:
-        return f"slot {self.claim.slot} version {self.claim.version}"
+
+def label(claim: Claim) -> str:
+    return f"slot {claim.slot} version {claim.version}"
 
 
-@dataclass
-class Timeline:
-    """All rows, by object and then by version, over the steps."""
+def trace(played: Played, section: Section = WHOLE) -> Iterator[Column]:
+    """Follows a session as it is played, and in the section notes how every live transaction stands at every event."""
+    followed = Followed(played.fresh.first_version)
+    for step in played.steps:
+        if step.number in section:
+            before = followed.states()
+            marks = marks_of(step, followed)
+            after = followed.states()
+            yield Column(step, True, {claim: Cell(before.get(claim), marks.get(claim, ""), after.get(claim))
+                                      for claim in {**before, **after}})
+        else:
+            marks_of(step, followed)
+            yield Column(step, False)
 
-    steps: List[Step]
-    rows: List[Row]
 
-
-def trace(played: Played) -> Timeline:
-    """Follows the played session and notes how every live transaction stands at every event."""
-    followed = Followed(played.first_version)
+def rows_of(columns: Iterable[Column]) -> List[Row]:
+    """The rows of some columns, by object and then by version."""
     rows: Dict[Claim, Row] = {}
-    states: Dict[Claim, State] = {}
-    for column, step in enumerate(played.steps):
-        marks = marks_of(step, followed)
-        after = {claim: followed.state(claim) for claim in followed.claims()}
-        for claim in {**states, **after}:
-            row = rows.setdefault(claim, Row(claim))
-            row.cells[column] = Cell(states.get(claim), marks.get(claim, ""), after.get(claim))
-        states = after
-    ordered = sorted(rows.values(), key=lambda row: (row.claim.object_number, row.claim.place))
-    return Timeline(played.steps, ordered)
+    for place, column in enumerate(columns):
+        for claim, cell in column.cells.items():
+            rows.setdefault(claim, Row(claim)).cells[place] = cell
+    return sorted(rows.values(), key=lambda row: (row.claim.object_number, row.claim.place))
 
 
 def marks_of(step: Step, followed: Followed) -> Dict[Claim, str]:

@@ -24,8 +24,9 @@ BAD_LINES = [
     ("start 0 3:1:1", "'1:1' is no number"),
     ("start 0" + " 1:1" * 63, "'1:1' is too much"),
     ("call 0 3", "missing"),
-    ("call 0 3 take 5", "'take' is no number from 0 to 255"),
-    ("call 0 3 256", "'256' is no number from 0 to 255"),
+    ("strat 0 3:1", "'strat' is none of these; the closest is 'start'"),
+    ("call 0 3 raed", "'raed' is no kind: the kinds are read, write, add, spend, or a number up to 255"),
+    ("call 0 3 256", "'256' is no kind: the kinds are read, write, add, spend, or a number up to 255"),
     ("call 0 3 add 4294967296", "no number from 0 to 4294967295"),
     ("call 0 3 add 1 2", "'2' is too much"),
     ("release 0", "missing"),
@@ -89,3 +90,14 @@ class Composing(unittest.TestCase):
         with self.assertRaises(BadSession) as raised:
             compose("start\nstart 0 3:1\ncommit 0\n")
         self.assertEqual([bad.number for bad in raised.exception.bad_lines], [1, 3])
+
+    def test_a_byte_order_mark_is_taken_at_the_start_alone(self):
+        self.assertEqual(compose("\ufeff" + session_w.TEXT), session_w.BYTES)
+        self.assertEqual(compose("\ufeff# a remark\n" + session_w.TEXT), session_w.BYTES)
+        with self.assertRaises(BadSession):
+            compose("fresh 0\n\ufeffstart 0 3:1\n")
+
+    def test_a_bad_line_says_what_is_wrong(self):
+        with self.assertRaises(BadSession) as raised:
+            compose("raw " + "G" * 100000)
+        self.assertLess(len(str(raised.exception.bad_lines[0])), 1000)

@@ -42,7 +42,7 @@ NO_RECORDS = [
 
 class Reading(unittest.TestCase):
     def test_what_was_composed_reads_back(self):
-        pieces = read_run(compose(session_w.TEXT))
+        pieces = list(read_run([compose(session_w.TEXT)]))
         self.assertEqual([piece.content for piece in pieces], RECORDS_OF_W)
         self.assertEqual([piece.offset for piece in pieces][:3], [0, 104, 112])
         self.assertEqual(b"".join(write(piece.content) for piece in pieces), session_w.BYTES)
@@ -71,11 +71,34 @@ class Reading(unittest.TestCase):
     def test_a_run_goes_on_behind_a_whole_frame_only(self):
         unknown = bytes.fromhex("02 00 06 01 00 03")
         torn = bytes.fromhex("05 00 04")
-        kinds = [type(piece.content) for piece in read_run(unknown + session_w.RECORDS[9] + torn)]
+        kinds = [type(piece.content) for piece in read_run([unknown + session_w.RECORDS[9] + torn])]
         self.assertEqual(kinds, [Fault, Release, Fault])
-        self.assertEqual(read_run(b""), [])
         too_long = bytes.fromhex("7F 00 01 01") + session_w.RECORDS[9]
-        self.assertEqual(len(read_run(too_long)), 1)
+        self.assertEqual([piece.data for piece in read_run([too_long])], [too_long[:4]])
+
+    def test_no_bytes_are_no_record(self):
+        for parts in ([], [b""], [b"", b""]):
+            (piece,) = read_run(parts)
+            self.assertEqual((piece.offset, piece.data, piece.content), (0, b"", read_record(b"")))
+
+    def test_parts_of_any_size_give_the_same(self):
+        torn = session_w.BYTES + session_w.END_RECORD + bytes.fromhex("05 00 04 01 01")
+        whole = list(read_run([torn]))
+        self.assertEqual(b"".join(piece.data for piece in whole), torn)
+        for size in (1, 3, 7, 130, 131):
+            parts = [torn[place:place + size] for place in range(0, len(torn), size)]
+            self.assertEqual(list(read_run(parts)), whole, size)
+
+    def test_a_record_is_given_as_soon_as_it_is_whole(self):
+        asked = []
+
+        def parts():
+            for record in session_w.RECORDS:
+                asked.append(record)
+                yield record
+
+        for place, piece in enumerate(read_run(parts()), 1):
+            self.assertEqual((piece.data, len(asked)), (session_w.RECORDS[place - 1], place))
 
     def test_records_in_words(self):
         said = [say(record) for record in RECORDS_OF_W]

@@ -28,14 +28,14 @@ class Sessions(unittest.TestCase):
         for name in names(SESSIONS):
             with self.subTest(session=name):
                 text, lines = parts(name)
-                yield text, pair(compose(text), lines)
+                yield text, lambda: pair(compose(text), lines)
 
     def test_each_begins_with_a_comment_and_can_be_told(self):
         for text, played in self.each():
             self.assertTrue(text.startswith("# "))
-            self.assertEqual(len(explain(played)), len(played.steps))
-            self.assertTrue(draw(trace(played)))
-            self.assertTrue(picture(trace(played)).endswith("</svg>\n"))
+            self.assertEqual(len(list(explain(played()))), len(list(played().steps)))
+            self.assertTrue(list(draw(trace(played()))))
+            self.assertTrue(picture(trace(played()))[0].endswith("</svg>\n"))
 
     def test_session_w_is_the_one_of_the_rules(self):
         text, lines = parts("w")
@@ -43,8 +43,9 @@ class Sessions(unittest.TestCase):
         self.assertEqual(lines, session_w.LINES)
 
     def test_what_is_followed_agrees_with_the_lines(self):
-        for _, played in self.each():
-            followed = Followed(played.first_version)
+        for _, play in self.each():
+            played = play()
+            followed = Followed(played.fresh.first_version)
             for step in played.steps:
                 self.agrees(step, followed)
                 if step.answer == ACCEPTED:
