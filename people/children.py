@@ -3,8 +3,7 @@ import os
 import signal
 import subprocess
 import time
-from contextlib import contextmanager
-from typing import Iterator, List
+from typing import List
 
 # What ends a command from outside, and what a shell adds to the signal's number for the exit status.
 SIGNALS = (signal.SIGINT, signal.SIGTERM, signal.SIGHUP)
@@ -25,21 +24,21 @@ class Interrupted(BaseException):
 
 def interrupt(number: int, _frame: object) -> None:
     """Ends what is under way; a second signal would only disturb the clearing up."""
-    for each in SIGNALS:
-        signal.signal(each, signal.SIG_IGN)
+    calm()
     raise Interrupted(number)
 
 
-@contextmanager
-def watched() -> Iterator[None]:
-    """Signals interrupt what is done inside. One who hung up under nohup does not mean the command."""
-    taken = [number for number in SIGNALS if number != signal.SIGHUP or signal.getsignal(number) != signal.SIG_IGN]
-    before = {number: signal.signal(number, interrupt) for number in taken}
-    try:
-        yield
-    finally:
-        for number, handler in before.items():
-            signal.signal(number, handler)
+def watch() -> None:
+    """From now on signals interrupt. One who hung up under nohup does not mean the command."""
+    for number in SIGNALS:
+        if number != signal.SIGHUP or signal.getsignal(number) != signal.SIG_IGN:
+            signal.signal(number, interrupt)
+
+
+def calm() -> None:
+    """From now on signals do nothing. They are not set to be ignored: Python prints a traceback where one comes at that moment."""
+    for number in SIGNALS:
+        signal.signal(number, lambda _number, _frame: None)
 
 
 def unblock() -> None:

@@ -142,12 +142,14 @@ def status_of(words: List[str]) -> int:
 
 def main(words: List[str]) -> int:
     """The exit status of a command line. However it ends, nothing that it started is left."""
-    with children.watched():
+    try:
+        children.watch()
         try:
-            try:
-                return status_of(words)
-            finally:
-                children.end_all()
-        except children.Interrupted as interrupted:
+            status = status_of(words)
+        finally:
             children.end_all()
-            return interrupted.status
+        children.calm()
+    except children.Interrupted as interrupted:
+        children.end_all()
+        status = interrupted.status
+    return status

@@ -5,6 +5,7 @@ from typing import BinaryIO, Iterator
 
 from people.composing import BadSession, compose
 from people.ordering import DIGITS
+from people.output import Unwritten
 from people.usage import STANDARD_INPUT
 
 PART_BYTES = 1 << 16
@@ -69,13 +70,15 @@ def end_bytes(word: str) -> bytes:
 def write_file(path: Path, text: str) -> None:
     """Writes a file; one that is cut short does not stay."""
     try:
-        with open(path, "w", encoding="utf-8") as file:
-            try:
-                file.write(text)
-                file.flush()
-            except BaseException:
-                if path.is_file():
-                    path.unlink()
-                raise
+        file = open(path, "w", encoding="utf-8")
     except OSError as error:
         raise BadCommand(f"{path}: {error.strerror}") from error
+    try:
+        with file:
+            file.write(text)
+    except BaseException as error:
+        if path.is_file():
+            path.unlink()
+        if isinstance(error, OSError):
+            raise Unwritten(f"{path}: {error.strerror}") from error
+        raise

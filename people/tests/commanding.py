@@ -36,5 +36,5 @@ class Commanding(unittest.TestCase):
         standard_input = mock.Mock(buffer=io.BytesIO(given))
         with mock.patch.object(commands, "run", runs), mock.patch.object(checking, "run", runs), mock.patch.object(commands, "ready"), \
                 mock.patch("sys.stdout", output), mock.patch("sys.stderr", error), mock.patch("sys.stdin", standard_input):
-            status = commands.main(list(words))
+            status = commands.status_of(list(words))
         return status, output.getvalue() or output.buffer.getvalue(), error.getvalue()

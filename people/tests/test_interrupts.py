@@ -1,0 +1,65 @@
+"""Tests of interrupts: whatever a command is doing, it leaves no file and no process, and says nothing."""
+import signal
+import subprocess
+
+from people.tests import session_w
+from people.tests.processes import Processes, gone
+
+SIGNALS = {signal.SIGINT: 130, signal.SIGTERM: 143, signal.SIGHUP: 129}
+
+
+class Interrupts(Processes):
+    def interrupted(self, started, number, count):
+        """The outcome of a command that is interrupted when as many children are there."""
+        children = self.children(count)
+        started.send_signal(number)
+        outcome = self.outcome(started)
+        self.assertEqual([child for child in children if not gone(child)], [])
+        self.assertEqual(list(self.temporary.iterdir()), [])
+        self.notes.unlink()
+        return outcome
+
+    def test_while_the_program_runs(self):
+        for number, status in SIGNALS.items():
+            for words in ([self.session], ["--explain", self.session], ["--svg", self.folder / "w.svg", self.session], ["live"], ["check"]):
+                with self.subTest(signal=number, words=words):
+                    given = subprocess.PIPE if words == ["live"] else subprocess.DEVNULL
+                    started = self.start("sleeps", *words, stdin=given)
+                    if words == ["live"]:
+                        started.stdin.write(session_w.TEXT.encode())
+                        started.stdin.flush()
+                    self.assertEqual(self.interrupted(started, number, 1)[::2], (status, ""))
+
+    def test_while_it_is_proved(self):
+        for number, status in SIGNALS.items():
+            self.assertEqual(self.interrupted(self.start("proves", self.session), number, 2), (status, "", ""))
+
+    def test_a_program_that_does_not_want_to_end(self):
+        self.assertEqual(self.interrupted(self.start("sleeps-on", self.session), signal.SIGTERM, 1), (143, "", ""))
+
+    def test_while_it_reads(self):
+        for words, given in ((["read"], session_w.RECORDS[0]), (["live"], b"fresh 0\n")):
+            started = self.start("ends", *words, stdin=subprocess.PIPE)
+            started.stdin.write(given)
+            started.stdin.flush()
+            self.assertIn(b"fresh", started.stdout.readline())
+            started.send_signal(signal.SIGINT)
+            self.assertEqual(self.outcome(started), (130, "", ""), words)
+
+    def test_two_signals_are_as_one(self):
+        started = self.start("sleeps-on", self.session)
+        self.children(1)
+        started.send_signal(signal.SIGINT)
+        started.send_signal(signal.SIGTERM)
+        self.assertIn(self.outcome(started), ((130, "", ""), (143, "", "")))
+
+    def test_a_reader_that_has_gone_ends_the_program(self):
+        """What is left of the program is ended too, not only the command."""
+        started = self.start("sleeps", "live", stdin=subprocess.PIPE)
+        children = self.children(1)
+        started.stdout.close()
+        started.stdin.write(b"fresh 0\n")
+        started.stdin.close()
+        started.stdin = None
+        self.assertEqual(started.wait(30), 141)
+        self.assertTrue(all(map(gone, children)))
