@@ -66,14 +66,20 @@ def records():
 def main(how: str):
     lines = os.environ.get(LINES, "\n".join(session_w.LINES)).splitlines()
     if not how.startswith("sleeps"):
-        for place, _ in enumerate(records()):
-            if place > len(lines):
-                break
-            if place > 0:
-                print(lines[place - 1], flush=True)
-            if place == len(lines):
-                break
+        answer(lines)
     HOW[how]()
+
+
+def answer(lines):
+    """A line for each record behind the first; one of event 0 is about the first, or about no record at all."""
+    coming = records()
+    first = next(coming, None)
+    if lines and lines[0].startswith("0 "):
+        print(lines[0], flush=True)
+    elif first:
+        # The next record is asked for only where there is an answer to it.
+        for line, _ in zip(lines, coming):
+            print(line, flush=True)
 
 
 if __name__ == "__main__":

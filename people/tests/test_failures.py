@@ -26,13 +26,13 @@ class Failures(Processes):
                 self.assertEqual(self.ended(how, self.session, lines=came), (1, "\n".join(came) + "\n", f"{CUT_SHORT}{said}\n"))
                 status, output, error = self.ended(how, "--explain", self.session, lines=came)
                 self.assertEqual((status, len(output.splitlines()), error), (1, 5, f"{CUT_SHORT}{said}\n"))
+                self.assertEqual(list(self.temporary.iterdir()), [])
                 status, output, error = self.ended(how, "--draw", self.session, lines=came)
                 self.assertEqual((status, output.split()[:6], error), (1, "event 1 2 3 4 5".split(), f"{CUT_SHORT}{said}\n"))
 
     def test_a_failure_behind_all_lines_is_one(self):
         for how in ("says", "status", "signal"):
-            status, output, error = self.ended(how, self.session)
-            self.assertEqual((status, output, error), (1, "\n".join(session_w.LINES) + "\n", f"{CUT_SHORT}{FAILURES[how]}\n"))
+            self.assertEqual(self.ended(how, self.session), (1, "\n".join(session_w.LINES) + "\n", f"{CUT_SHORT}{FAILURES[how]}\n"))
 
     def test_no_picture_of_a_program_that_fails(self):
         drawn = self.folder / "w.svg"
@@ -47,11 +47,6 @@ class Failures(Processes):
 
     def test_a_program_that_is_not_proved(self):
         self.assertEqual(self.ended("not-proved", self.session), (1, "", "the program 'bench' is not proved\n"))
-
-    def test_nothing_is_left_of_good_and_bad_programs(self):
-        for how in ("ends", *FAILURES):
-            self.ended(how, self.session)
-            self.assertEqual(list(self.temporary.iterdir()), [])
 
 
 class Outputs(Processes):
@@ -113,4 +108,4 @@ class Outputs(Processes):
             environment = {**os.environ, "PATH": str(self.temporary)}
             ended = subprocess.run([sys.executable, "-B", "bench", *map(str, words)], cwd=ROOT, env=environment, stdin=subprocess.DEVNULL,
                                    stdout=subprocess.PIPE, stderr=subprocess.PIPE, universal_newlines=True, check=False)
-            self.assertEqual((ended.returncode, ended.stdout, ended.stderr[:25]), (1, "", "rt is not on the PATH: th"[:25]), words)
+            self.assertEqual((ended.returncode, ended.stdout, ended.stderr[:25]), (1, "", "rt is not on the PATH: th"), words)

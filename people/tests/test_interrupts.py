@@ -21,14 +21,16 @@ class Interrupts(Processes):
 
     def test_while_the_program_runs(self):
         for number, status in SIGNALS.items():
-            for words in ([self.session], ["--explain", self.session], ["--svg", self.folder / "w.svg", self.session], ["live"], ["check"]):
-                with self.subTest(signal=number, words=words):
-                    given = subprocess.PIPE if words == ["live"] else subprocess.DEVNULL
-                    started = self.start("sleeps", *words, stdin=given)
-                    if words == ["live"]:
-                        started.stdin.write(session_w.TEXT.encode())
-                        started.stdin.flush()
-                    self.assertEqual(self.interrupted(started, number, 1)[::2], (status, ""))
+            self.assertEqual(self.interrupted(self.start("sleeps", self.session), number, 1), (status, "", ""))
+        for words in (["--explain", self.session], ["--svg", self.folder / "w.svg", self.session], ["check"]):
+            self.assertEqual(self.interrupted(self.start("sleeps", *words), signal.SIGINT, 1), (130, "", ""), words)
+
+    def test_while_an_answer_is_waited_for(self):
+        started = self.start("sleeps", "live", stdin=subprocess.PIPE)
+        started.stdin.write(session_w.TEXT.encode())
+        started.stdin.flush()
+        self.assertIn(b"fresh", started.stdout.readline())
+        self.assertEqual(self.interrupted(started, signal.SIGTERM, 1), (143, "", ""))
 
     def test_while_it_is_proved(self):
         for number, status in SIGNALS.items():
