@@ -8,7 +8,8 @@ from typing import List
 # What ends a command from outside, and what a shell adds to the signal's number for the exit status.
 SIGNALS = (signal.SIGINT, signal.SIGTERM, signal.SIGHUP)
 BY_SIGNAL = 128
-GRACE_SECONDS = 2.0
+# A prover that is asked to end may first have to end what it started.
+GRACE_SECONDS = 15.0
 LOOK_SECONDS = 0.01
 
 RUNNING: List[subprocess.Popen] = []

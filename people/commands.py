@@ -14,7 +14,7 @@ from people.playing import Played, Unpaired, pair, whole
 from people.reading import Fault, read_run
 from people.running import NotRun, Program, ready, run
 from people.sections import NoEvent, Section
-from people.sources import BadCommand, end_bytes, read_parts, records_of, typed_lines, write_file
+from people.sources import BadCommand, end_bytes, has_folder, is_typed, read_parts, records_of, typed_lines, write_file
 from people.timeline import trace
 from people.usage import STANDARD_INPUT, BadUse, help_of, parse
 from people.wording import say
@@ -53,6 +53,7 @@ def draw_command(session: str, first: int = 0, last: Optional[int] = None) -> in
 
 def svg_command(file: str, session: str, first: int = 0, last: Optional[int] = None) -> int:
     section = Section(first, last).at_most(picture.MOST_EVENTS)
+    has_folder(Path(file))
     drawn, left_out = picture.picture(trace(play(session), section), section)
     write_file(Path(file), drawn)
     if left_out:
@@ -63,6 +64,8 @@ def svg_command(file: str, session: str, first: int = 0, last: Optional[int] = N
 def live_command() -> int:
     ready()
     talk = Talk(Program(), tell)
+    if is_typed():
+        tell("Items are played as they are typed, one a line; Ctrl-D ends.")
     for said in talk.answers(typed_lines()):
         show(said)
     tell("the program has stopped" if talk.stops else "the input has ended")

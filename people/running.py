@@ -1,6 +1,7 @@
 """Running: the bench program, proved and then run on records."""
 import functools
 import os
+import shutil
 import signal
 import subprocess
 import tempfile
@@ -11,7 +12,7 @@ from people import children
 
 ROOT = Path(__file__).resolve().parent.parent
 PROGRAM = "bench"
-READY = ". tools/kit"
+TOOL = "rt"
 PROVE = '. tools/kit && prove "$1"'
 COMMAND = '. tools/kit && program "$1"'
 # What a program says of its failure is a line or two; of more, the beginning is shown.
@@ -47,14 +48,17 @@ def answer_of(text: str) -> str:
 
 
 def ready() -> None:
-    """Refuses, before any work, where a tool that the program needs is missing."""
-    answer_of(READY)
+    """Refuses, before any work, where the tool is missing that proves the program and says how it is run."""
+    if not shutil.which(TOOL):
+        raise NotRun(f"{TOOL} is not on the PATH: the program '{PROGRAM}' is proved and run with the Rattle kit, which README.md names")
 
 
 @functools.lru_cache(maxsize=None)
 def prove() -> None:
     """Proves the program and what it uses, once. What the proof says goes to standard error as it comes."""
     with tempfile.TemporaryDirectory() as place:
+        # Whatever is run there as another user has to get in.
+        os.chmod(place, 0o711)
         child = children.start(script(PROVE), cwd=ROOT, env={**os.environ, "TMPDIR": place}, stdin=subprocess.DEVNULL, stdout=2)
         try:
             status = child.wait()

@@ -40,6 +40,11 @@ def typed_lines() -> Iterator[bytes]:
         raise BadCommand(f"standard input: {error.strerror}") from error
 
 
+def is_typed() -> bool:
+    """Whether someone sits at standard input."""
+    return standard_input().isatty()
+
+
 def standard_input() -> BinaryIO:
     if sys.stdin is None:
         raise BadCommand("standard input: it is closed")
@@ -65,6 +70,12 @@ def end_bytes(word: str) -> bytes:
     if not DIGITS.fullmatch("".join(word.split()).encode()):
         raise BadCommand(f"'{word}' is no file, and not the hexadecimal digits of a record")
     return word.encode()
+
+
+def has_folder(path: Path) -> None:
+    """Refuses, before any work, a file that would have no folder to be in."""
+    if not path.absolute().parent.is_dir():
+        raise BadCommand(f"{path}: there is no folder {path.parent}")
 
 
 def write_file(path: Path, text: str) -> None:

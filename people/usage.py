@@ -121,7 +121,8 @@ def split(command: str, words: List[str]) -> Tuple[List[str], Dict[str, int]]:
             behind, name = OPTIONS[word]
             options[name] = event_number(word, behind, next(rest, None)) if behind else 1
         else:
-            raise BadUse(f"{form(command)}: '{word}' is none of its options{closest(word, use.options)}")
+            place = f"; {word} stands before all other words" if word in USES else closest(word, use.options)
+            raise BadUse(f"{form(command)}: '{word}' is none of its options{place}")
     if not use.any_number:
         count(command, places)
     if options.get("last", options.get("first", 0)) < options.get("first", 0):

@@ -30,8 +30,9 @@ class Commands(Commanding):
         drawn = self.folder / "w.svg"
         self.assertEqual(self.command("--svg", str(drawn), self.session, lines=session_w.LINES[:5])[0], 1)
         self.assertFalse(drawn.exists())
-        status, _, error = self.command("--svg", str(self.folder / "none" / "w.svg"), self.session)
-        self.assertEqual((status, "No such file" in error), (2, True))
+        status, _, error = self.command("--svg", str(self.folder / "none" / "w.svg"), self.session, lines=AssertionError())
+        self.assertEqual((status, "there is no folder" in error), (2, True))
+        self.assertEqual(self.command("--svg", str(self.folder), self.session)[::2], (2, f"{self.folder}: Is a directory\n"))
 
     def test_long_drawings_are_limited(self):
         text, lines = long_session(1100)

@@ -1,4 +1,5 @@
 """Tests of playing as items are typed: each has its answer before the next is typed."""
+import os
 import select
 import subprocess
 
@@ -80,6 +81,16 @@ class Live(Processes):
             self.assertTrue(error.startswith("the program 'bench' failed, and its output is cut short: ") and said in error, error)
         started = self.live(lines=session_w.LINES[:2])
         self.assertIn("cut short: event 3 has no line", self.outcome(started, session_w.TEXT.encode())[2])
+
+    def test_one_who_types_is_told_how(self):
+        typing, terminal = os.openpty()
+        started = self.start("ends", "live", stdin=terminal)
+        os.write(typing, b"fresh 4294967295 3=100\nstart 0 3:2\n\x04")
+        status, output, error = self.outcome(started)
+        self.assertEqual((status, len(output.splitlines())), (0, 2))
+        self.assertEqual(error, f"Items are played as they are typed, one a line; Ctrl-D ends.\n{ENDED}")
+        os.close(typing)
+        os.close(terminal)
 
     def test_many_records_in_one_item(self):
         """More than the pipes to the program and from it hold."""

@@ -33,6 +33,7 @@ BAD_WORDS = [
     (["--draw", "w", "--from", "5", "--to", "4"], "./bench --draw [--from N] [--to M] SESSION: event 5 is behind event 4"),
     (["--draw", "w", "--form", "5"], "./bench --draw [--from N] [--to M] SESSION: '--form' is none of its options; the closest is '--from'"),
     (["-", "--from", "5"], "./bench SESSION: '--from' is none of its options"),
+    (["-", "--explain"], "./bench SESSION: '--explain' is none of its options; --explain stands before all other words"),
     (["record", "w", "--from", "5"], "./bench record [--raw] SESSION: '--from' is none of its options"),
 ]
 
