@@ -5,7 +5,7 @@ from typing import Dict, Iterator, List, Optional, Tuple
 from people.answers import ACCEPTED
 from people.following import VERSIONS, Claim, Effect, Followed
 from people.layout import OBJECTS, SLOTS, Call, Commit, Committed, End, Event, Fresh, RolledBack
-from people.playing import Played, pair
+from people.playing import Played, Unpaired, pair
 
 
 def act(call: Call, word: int) -> Tuple[int, int]:
@@ -88,7 +88,10 @@ def ends(played: Played, left: Left) -> Iterator[Tuple[int, bytes]]:
         if step.answer == ACCEPTED:
             effect = left.accept(step.content)
             if isinstance(step.content, End):
-                yield step.number, end_record(step.content, effect.claims)
+                data = end_record(step.content, effect.claims)
+                if step.value != len(data):
+                    raise Unpaired(f"'{step.line}' does not follow from the lines before it: its end record has {len(data)} bytes")
+                yield step.number, data
 
 
 def ends_and_left(records: bytes, lines: List[str]) -> Tuple[Dict[int, str], Optional[Left]]:

@@ -55,6 +55,11 @@ class Commands(Commanding):
         status, output, _ = self.command("record", "--raw", self.session)
         self.assertEqual((status, output[:15], len(output)), (0, session_w.END_RECORD, 35))
 
+    def test_record_keeps_no_end_that_cannot_be(self):
+        status, output, error = self.command("record", self.session, lines=session_w.LINES[:9] + ["10 0 20"] + session_w.LINES[10:])
+        self.assertEqual((status, output), (1, b""))
+        self.assertEqual(error, "'10 0 20' does not follow from the lines before it: its end record has 15 bytes\n")
+
     def test_record_of_no_ends_and_of_a_session_that_does_not_begin(self):
         self.assertEqual(self.command("record", self.file("a", "fresh 0\n"), lines=[]), (0, b"", ""))
         self.assertEqual(self.command("record", self.file("b", "start 0 3:1\n"), lines=["0 12 0"]), (0, b"", ""))
