@@ -17,9 +17,6 @@ class Section:
     def __contains__(self, number: int) -> bool:
         return self.first <= number and (self.last is None or number <= self.last)
 
-    def __str__(self) -> str:
-        return f"event from {self.first} on" if self.last is None else f"event from {self.first} to {self.last}"
-
     def at_most(self, count: int) -> "Section":
         """The section with that many events where nothing says how far it goes."""
         return self if self.last is not None else Section(self.first, max(self.first, 1) + count - 1)
@@ -46,8 +43,12 @@ class Shown:
 
     def check(self) -> None:
         """Refuses a section that was asked for and has no event."""
-        if self.first is None and (self.seen is not None or self.section.first > 0):
-            raise NoEvent(f"there is no {self.section}: " + ("there is none at all" if self.seen is None else f"the last is {self.seen}"))
+        if self.first is not None:
+            return
+        if self.section.first > (self.seen or 0):
+            raise NoEvent(f"there is no event {self.section.first}: " + (f"the last is {self.seen}" if self.seen else "there is none at all"))
+        if self.seen:
+            raise NoEvent(f"there is no event up to {self.section.last}: the last is {self.seen}")
 
     def left_out(self) -> str:
         """Which events have not been shown, or nothing."""

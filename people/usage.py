@@ -29,18 +29,16 @@ class Use:
     any_number: bool = False
 
 
-RANGED = "With --from N, --to M or both, {what} the events from number N to number M alone{else_}."
+RANGED = "With --from N, --to M or both: the events from number N to number M alone."
 USES: Dict[str, Use] = {
     "": Use(("SESSION",), (), "proves and runs the bench program on a session, prints its lines",
             "A line is the event's number, 0 or the refusal's number, and the value; it is printed as soon as it comes."),
-    "--explain": Use(("SESSION",), RANGE, "the same lines, each with its meaning in words",
-                     RANGED.format(what="it explains", else_="")),
+    "--explain": Use(("SESSION",), RANGE, "the same lines, each with its meaning in words", RANGED),
     "--draw": Use(("SESSION",), RANGE, "draws the transactions over the events, as text",
-                  RANGED.format(what="it draws", else_=f"; without --to, at most {drawing.MOST_EVENTS:,}")
-                  + "\nThe drawing says which events it leaves out, and at its end what its signs mean."),
+                  f"{RANGED}\nWithout --to it draws at most {drawing.MOST_EVENTS:,} events. It says which it leaves out."),
     "--svg": Use(("FILE", "SESSION"), RANGE, "writes that drawing to a file as SVG",
-                 RANGED.format(what="it draws", else_=f"; without --to, at most {picture.MOST_EVENTS:,}")
-                 + f"\nThe picture ends where it would pass {picture.MOST_PIXELS:,} pixels, and says which events it leaves out."),
+                 f"{RANGED}\nWithout --to it draws at most {picture.MOST_EVENTS:,} events, and in no case more than a viewer shows, which is "
+                 f"{picture.MOST_PIXELS:,} pixels\neach way. It says which it leaves out."),
     "live": Use((), (), "plays the items typed on standard input one by one, and says what comes of each",
                 "A bad line is told and not played. It ends with the input, or where the program stops."),
     "record": Use(("SESSION",), ("--raw",), "prints the end records of a session in hexadecimal, each behind its event's number",
@@ -91,7 +89,7 @@ def help_of(command: str) -> str:
     use = USES[command]
     if command == "--help":
         return help_of_all()
-    parts = [form(command), f"    {use.does}", use.more, SESSIONS if "SESSION" in use.places or command == "live" else "", STATUS]
+    parts = [f"{form(command)}\n    {use.does}", use.more, SESSIONS if "SESSION" in use.places or command == "live" else "", STATUS]
     return "\n".join(part.rstrip("\n") + "\n" for part in parts if part)
 
 

@@ -36,6 +36,8 @@ class Processes(unittest.TestCase):
     def start(self, how, *words, lines=session_w.LINES, **streams):
         """Starts a command over a stand-in."""
         environment = {**os.environ, LINES: "\n".join(lines), NOTES: str(self.notes), "TMPDIR": str(self.temporary)}
+        # Python's own buffer is one of the things that are tested.
+        environment.pop("PYTHONUNBUFFERED", None)
         options = {"stdin": subprocess.DEVNULL, "stdout": subprocess.PIPE, "stderr": subprocess.PIPE, **streams}
         started = subprocess.Popen([sys.executable, "-B", "-m", "people.tests.driven", how, *map(str, words)], cwd=ROOT, env=environment,
                                    **options)
