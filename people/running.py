@@ -126,7 +126,11 @@ class Program:
 
 def run(records: bytes) -> Iterator[str]:
     """The lines that the program prints for these records, as they come."""
-    with tempfile.TemporaryFile() as page:
+    page = tempfile.TemporaryFile()
+    try:
         page.write(records)
         page.seek(0)
+    except OSError as error:
+        raise NotRun(f"the records, in a temporary file: {error.strerror}") from error
+    with page:
         yield from Program(page).lines()

@@ -1,5 +1,7 @@
 """Tests of failures: a program that fails is never shown as if it were whole, nor is output that can't be written."""
+import functools
 import os
+import resource
 import subprocess
 import sys
 
@@ -69,6 +71,13 @@ class Outputs(Processes):
     def test_a_picture_on_a_full_disk(self):
         self.assertEqual(self.ended("ends", "--svg", "/dev/full", self.session), (1, "", "/dev/full: No space left on device\n"))
         self.assertTrue(os.path.exists("/dev/full"))
+
+    def test_a_disk_that_gets_full(self):
+        drawn = self.folder / "w.svg"
+        for bytes_left, said in ((4096, f"{drawn}: File too large\n"), (100, "the records, in a temporary file: File too large\n")):
+            limit = functools.partial(resource.setrlimit, resource.RLIMIT_FSIZE, (bytes_left, bytes_left))
+            self.assertEqual(self.ended("ends", "--svg", drawn, self.session, preexec_fn=limit), (1, "", said))
+            self.assertFalse(drawn.exists())
 
     def test_a_closed_output(self):
         for words in self.commands():

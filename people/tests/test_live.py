@@ -78,7 +78,7 @@ class Live(Processes):
             started = self.live(how, lines=session_w.LINES[:2])
             status, output, error = self.outcome(started, session_w.TEXT.encode())
             self.assertEqual((status, len(output.splitlines())), (1, 3))
-            self.assertTrue(error.startswith("the program 'bench' failed, and its output is cut short: ") and said in error, error)
+            self.assertEqual(error, f"the program 'bench' failed, and its output is cut short: {said}\n")
         started = self.live(lines=session_w.LINES[:2])
         self.assertIn("cut short: event 3 has no line", self.outcome(started, session_w.TEXT.encode())[2])
 
