@@ -42,7 +42,8 @@ class Lengths(unittest.TestCase):
         self.linear(lambda text, lines: compose(text))
 
     def test_reading(self):
-        records = compose(session(SHORT * 4)[0])
+        # Copies are quick: only in long runs do those of all that is left show.
+        records = compose(session(SHORT)[0]) * 12
         times = [taken(lambda count=count: sum(1 for _ in read_run([records * count]))) for count in (1, TIMES)]
         self.assertLess(times[1] / times[0], MOST)
 
