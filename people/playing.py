@@ -113,10 +113,10 @@ def stops(content: Union[Record, Fault]) -> bool:
 
 
 def fits(step: Step) -> bool:
-    """Whether the answer is one of the table, and the only one where no event can be read."""
-    if step.stops():
-        return step.answer == BAD_RECORD
-    return step.answer in REFUSALS or step.answer == ACCEPTED and within(step.content)
+    """Whether the answer is one of the table, and the only one where no event can be read; a refusal has no value."""
+    if step.answer == ACCEPTED:
+        return not step.stops() and within(step.content)
+    return step.value == 0 and (step.answer == BAD_RECORD if step.stops() else step.answer in REFUSALS)
 
 
 def within(event: Record) -> bool:

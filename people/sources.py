@@ -1,4 +1,5 @@
 """Sources: what a command reads, from files or from standard input, and the file that it writes."""
+import os
 import sys
 from pathlib import Path
 from typing import BinaryIO, Iterator
@@ -65,7 +66,7 @@ def records_of(session: str) -> bytes:
 
 def end_bytes(word: str) -> bytes:
     """What a file holds, or the digits that stand in its place."""
-    if word == STANDARD_INPUT or Path(word).exists():
+    if word == STANDARD_INPUT or os.path.exists(word):
         return b"".join(read_parts(word))
     if not DIGITS.fullmatch("".join(word.split()).encode()):
         raise BadCommand(f"'{word}' is no file, and not the hexadecimal digits of a record")

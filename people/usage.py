@@ -1,6 +1,6 @@
 """Usage: the commands as they are written, their help, and what is wrong with words that are none."""
+import os
 from dataclasses import dataclass
-from pathlib import Path
 from typing import Dict, List, Tuple
 
 from people import drawing, picture
@@ -101,7 +101,7 @@ def parse(words: List[str]) -> Tuple[str, List[str], Dict[str, int]]:
     if any(word in HELP_WORDS for word in words):
         return "--help", [next((word for word in words if word in USES and word not in HELP_WORDS), "--help")], {}
     rest = words[1:] if command else words
-    if not command and rest[0] != STANDARD_INPUT and not Path(rest[0]).exists():
+    if not command and rest[0] != STANDARD_INPUT and not os.path.exists(rest[0]):
         no_file = "" if rest[0].startswith("-") else " and no file"
         raise BadUse(f"'{rest[0]}' is no command{no_file}{closest(rest[0], USES)}; {ALL}")
     places, options = split(command, rest)

@@ -72,6 +72,8 @@ class Commands(Commanding):
         self.assertEqual(self.command("order", str(path), digits), (0, said, ""))
         self.assertEqual(self.command("order", "-", digits, given=session_w.END_RECORD), (0, said, ""))
         self.assertEqual(self.command("order", session_w.END_RECORD.hex(" "), digits), (0, said, ""))
+        longest = "7E 00 01 02 00 00 00 00 00 18 " + " ".join(f"{number:02X} 00 00 00 00" for number in range(24))
+        self.assertEqual(self.command("order", longest, digits), (0, said, ""))
         self.assertEqual(self.command("order", "0B", digits), (1, b"", "A is no end record: under 4 bytes (there are 1)\n"))
         status, _, error = self.command("order", "missing", digits)
         self.assertEqual((status, error), (2, "'missing' is no file, and not the hexadecimal digits of a record\n"))

@@ -96,7 +96,7 @@ class Explaining(unittest.TestCase):
 
     def test_lines_of_another_session_are_refused(self):
         text = "fresh 0\nstart 0 3:0\n"
-        for lines in (["2 0 0"], ["1 0 0", "2 0 0"], ["0 12 0"], ["one"], ["1 0"], ["1 13 0"], [], ["1 0 1"]):
+        for lines in (["2 0 0"], ["1 0 0", "2 0 0"], ["0 12 0"], ["one"], ["1 0"], ["1 13 0"], [], ["1 0 1"], ["1 4 1"]):
             with self.assertRaises(Unpaired, msg=lines):
                 self.explained(text, lines)
         with self.assertRaises(Unpaired):
