@@ -1,6 +1,7 @@
 """Tests of interrupts: whatever a command is doing, it leaves no file and no process, and says nothing."""
 import signal
 import subprocess
+import time
 
 from people.tests import session_w
 from people.tests.processes import Processes, gone
@@ -48,12 +49,14 @@ class Interrupts(Processes):
             started.send_signal(signal.SIGINT)
             self.assertEqual(self.outcome(started), (130, "", ""), words)
 
-    def test_two_signals_are_as_one(self):
+    def test_further_signals_change_nothing(self):
         started = self.start("sleeps-on", self.session)
-        self.children(1)
-        started.send_signal(signal.SIGINT)
-        started.send_signal(signal.SIGTERM)
-        self.assertIn(self.outcome(started), ((130, "", ""), (143, "", "")))
+        children = self.children(1)
+        for number in (signal.SIGINT, signal.SIGTERM, signal.SIGINT, signal.SIGHUP):
+            started.send_signal(number)
+            time.sleep(0.1)
+        self.assertEqual(self.outcome(started), (130, "", ""))
+        self.assertTrue(gone(children[0]))
 
     def test_a_reader_that_has_gone_ends_the_program(self):
         """What is left of the program is ended too, not only the command."""
