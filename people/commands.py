@@ -147,12 +147,10 @@ def main(words: List[str]) -> int:
     """The exit status of a command line. However it ends, nothing that it started is left."""
     try:
         children.watch()
-        try:
-            status = status_of(words)
-        finally:
-            children.end_all()
+        status = status_of(words)
         children.calm()
     except children.Interrupted as interrupted:
-        children.end_all()
         status = interrupted.status
+    finally:
+        children.end_all()
     return status
