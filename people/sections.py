@@ -46,7 +46,8 @@ class Shown:
         if self.first is not None:
             return
         if self.section.first > (self.seen or 0):
-            raise NoEvent(f"there is no event {self.section.first}: " + (f"the last is {self.seen}" if self.seen else "there is none at all"))
+            last = f"the last is {self.seen}" if self.seen else "there is none at all"
+            raise NoEvent(f"there is no event {self.section.first}: {last}")
         if self.seen:
             raise NoEvent(f"there is no event up to {self.section.last}: the last is {self.seen}")
 

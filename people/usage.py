@@ -37,7 +37,7 @@ USES: Dict[str, Use] = {
     "--draw": Use(("SESSION",), RANGE, "draws the transactions over the events, as text",
                   f"{RANGED}\nWithout --to it draws at most {drawing.MOST_EVENTS:,} events. It says which it leaves out."),
     "--svg": Use(("FILE", "SESSION"), RANGE, "writes that drawing to a file as SVG",
-                 f"{RANGED}\nWithout --to it draws at most {picture.MOST_EVENTS:,} events, and in no case more than a viewer shows, which is "
+                 f"{RANGED}\nWithout --to it draws at most {picture.MOST_EVENTS:,} events, and in no case more than a viewer shows, "
                  f"{picture.MOST_PIXELS:,} pixels\neach way. It says which it leaves out."),
     "live": Use((), (), "plays the items typed on standard input one by one, and says what comes of each",
                 "A bad line is told and not played. It ends with the input, or where the program stops."),

@@ -101,7 +101,8 @@ left out: events 1 to 3 and events 9 to 12; --from N and --to M show others""".s
     def test_what_is_left_out_is_said(self):
         text, lines = long_session(19)
         for section, said in ((Section(1, 20), ""), (Section(0, 19), "left out: event 20;"), (Section(2), "left out: event 1;"),
-                              (Section(3, 3), "left out: events 1 to 2 and events 4 to 20;"), (Section().at_most(5), "left out: events 6 to 20;")):
+                              (Section(3, 3), "left out: events 1 to 2 and events 4 to 20;"),
+                              (Section().at_most(5), "left out: events 6 to 20;")):
             found = [line for line in drawn_of(text, lines, section) if line.startswith("left out")]
             self.assertEqual([line[:len(said)] for line in found], [said] if said else [])
             drawn, left_out = picture(columns_of(text, lines, section), section)

@@ -62,7 +62,8 @@ class Explaining(unittest.TestCase):
         for text in ("fresh 7\n", "raw 02 00 06 01 00 03\n", "raw 0B 00 02 02 07 00 00 00 00 01 03 00 00 00 00\n"):
             (said,) = self.explained("fresh 0\n" + text, ["1 12 0"])
             self.assertTrue(said.endswith("12 BadRecord: no event stands there, so the program stops"), said)
-            for more, behind in (("start 0 3:1\n", "8 bytes with 1 record are"), ("start 0 3:1\nrelease 0 3\n", "14 bytes with 2 records are"),
+            for more, behind in (("start 0 3:1\n", "8 bytes with 1 record are"),
+                                 ("start 0 3:1\nrelease 0 3\n", "14 bytes with 2 records are"),
                                  ("start 0 3:1\nraw 05\n", "9 bytes with 1 record are"), ("raw 05\n", "1 byte is")):
                 (said,) = self.explained("fresh 0\n" + text + more, ["1 12 0"])
                 self.assertTrue(said.endswith(f", so the program stops; behind it {behind} not played"), said)
@@ -106,8 +107,8 @@ class Explaining(unittest.TestCase):
 
     def test_lines_that_cannot_be_are_refused(self):
         begin = "fresh 0 3=5\nstart 0 3:0\n"
-        for item, line in (("call 0 3 read", "2 0 6"), ("call 0 3 add 1", "2 0 5"), ("call 0 3 spend 6", "2 0 1"), ("call 0 3 write 1", "2 0 1"),
-                           ("commit 0 1", "2 0 20"), ("call 0 4 read", "2 0 0"), ("call 1 3 read", "2 0 5"), ("call 0 3 4", "2 0 0"),
+        for item, line in (("call 0 3 read", "2 0 6"), ("call 0 3 add 1", "2 0 5"), ("call 0 3 spend 6", "2 0 1"),
+                           ("call 0 3 write 1", "2 0 1"), ("commit 0 1", "2 0 20"), ("call 0 4 read", "2 0 0"), ("call 1 3 read", "2 0 5"), ("call 0 3 4", "2 0 0"),
                            ("call 0 24 read", "2 0 0"), ("start 16 3:0", "2 0 0"), ("start 1 24:0", "2 0 0"), ("commit 1 1", "2 0 10")):
             with self.assertRaises(Unpaired, msg=item):
                 self.explained(f"{begin}{item}\n", ["1 0 0", line])

@@ -60,8 +60,8 @@ class Outputs(Processes):
         self.records.write_bytes(session_w.BYTES)
 
     def commands(self):
-        return ([self.session], ["--explain", self.session], ["--draw", self.session], ["record", self.session], ["record", "--raw", self.session],
-                ["compose", self.session], ["read", self.records], ["--help"])
+        return ([self.session], ["--explain", self.session], ["--draw", self.session], ["record", self.session],
+                ["record", "--raw", self.session], ["compose", self.session], ["read", self.records], ["--help"])
 
     def test_a_full_disk(self):
         for words in self.commands():

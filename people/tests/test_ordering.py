@@ -20,8 +20,8 @@ class Ordering(unittest.TestCase):
         far = 1 << 31
         for of_first, of_second, said in (
                 (0, 1, "A came first"), (1, 0, "B came first"), (4294967295, 0, "A came first"), (0, 4294967295, "B came first"),
-                (0, far - 1, "A came first"), (0, far + 1, "B came first"), (5, far + 4, "A came first"), (far + 5, 5, "too far apart to tell"),
-                (0, far, "too far apart to tell")):
+                (0, far - 1, "A came first"), (0, far + 1, "B came first"), (5, far + 4, "A came first"),
+                (far + 5, 5, "too far apart to tell"), (0, far, "too far apart to tell")):
             versions = f": object 3 has version {of_first} in A and {of_second} in B"
             self.assertEqual(came_first(end((3, of_first)), end((3, of_second))), said + versions)
         self.assertEqual(came_first(end((3, 8)), end((3, 8), kind=ROLLED_BACK)), "both have the same version of object 3, 8")
@@ -41,7 +41,8 @@ class Ordering(unittest.TestCase):
         self.assertEqual(came_first(session_w.END_RECORD, second), "A came first: object 3 has version 0 in A and 1 in B")
 
     def test_digits_in_any_spacing(self):
-        for digits in (b"0B 00 02 02 07 00 00 00 00 01 03 00 00 00 00\n", b"0b00020207000000 00010300000000", b" 0B\t00\r\n0202070000000001 0300000000"):
+        for digits in (b"0B 00 02 02 07 00 00 00 00 01 03 00 00 00 00\n", b"0b00020207000000 00010300000000",
+                       b" 0B\t00\r\n0202070000000001 0300000000"):
             self.assertEqual(came_first(digits, session_w.END_RECORD), "both have the same version of object 3, 0")
 
     def test_what_is_no_end_record(self):
