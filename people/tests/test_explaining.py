@@ -108,7 +108,8 @@ class Explaining(unittest.TestCase):
     def test_lines_that_cannot_be_are_refused(self):
         begin = "fresh 0 3=5\nstart 0 3:0\n"
         for item, line in (("call 0 3 read", "2 0 6"), ("call 0 3 add 1", "2 0 5"), ("call 0 3 spend 6", "2 0 1"),
-                           ("call 0 3 write 1", "2 0 1"), ("commit 0 1", "2 0 20"), ("call 0 4 read", "2 0 0"), ("call 1 3 read", "2 0 5"), ("call 0 3 4", "2 0 0"),
+                           ("call 0 3 write 1", "2 0 1"), ("commit 0 1", "2 0 20"), ("call 0 4 read", "2 0 0"), ("call 1 3 read", "2 0 5"),
+                           ("call 0 3 4", "2 0 0"),
                            ("call 0 24 read", "2 0 0"), ("start 16 3:0", "2 0 0"), ("start 1 24:0", "2 0 0"), ("commit 1 1", "2 0 10")):
             with self.assertRaises(Unpaired, msg=item):
                 self.explained(f"{begin}{item}\n", ["1 0 0", line])
