@@ -8,6 +8,8 @@ from device import qemu
 from device.building import SMALL, TARGETS, Player
 from device.kit import CRATE, ROOT, NotBuilt, module_of
 from device.playing import Played, Session, at_random, by_hand, most_by_kind, play
+from tools.needs import need
+from tools.running import end_quietly
 
 SESSIONS = ROOT / "sessions"
 
@@ -43,6 +45,8 @@ def play_all(player: Player, sessions: List[Session], calls: bool) -> bool:
 
 def main(words: List[str]) -> int:
     chosen = arguments(words)
+    need("rt", *(["cargo"] if chosen.random else []))
+    end_quietly()
     try:
         sessions = [by_hand(session) for session in chosen.sessions or sorted(SESSIONS.glob("*.session"))]
         sessions += [at_random(number) for number in range(1, chosen.random + 1)]

@@ -6,6 +6,9 @@ import subprocess
 from pathlib import Path
 from typing import List
 
+from tools.lock import held
+from tools.proving import NotProved, rt
+
 ROOT = Path(__file__).resolve().parent.parent
 WORK = ROOT / "target" / "device"
 TOOLCHAIN = Path("on") / os.uname().machine / "toolchain"
@@ -63,10 +66,14 @@ exec '{clang}' "$@"
 
 def module_of(crate: str = CRATE) -> Path:
     """Proves a library and keeps the LLVM module that its archive is compiled from."""
-    WORK.mkdir(parents=True, exist_ok=True)
     kept = WORK / f"{crate}.bc"
-    kept.unlink(missing_ok=True)
-    command(["rt", "staticlib", crate], cwd=ROOT, env={**os.environ, "RATTLE_HOME": str(kit_that_keeps(kept))})
+    with held():
+        WORK.mkdir(parents=True, exist_ok=True)
+        kept.unlink(missing_ok=True)
+        try:
+            rt(["staticlib", crate], [crate], RATTLE_HOME=str(kit_that_keeps(kept)))
+        except NotProved as reason:
+            raise NotBuilt(str(reason)) from None
     if not kept.exists():
         raise NotBuilt(f"rt staticlib {crate} handed clang no module")
     return kept

@@ -1,11 +1,10 @@
-"""Builds libgustlantern.a for this machine from the LLVM module of the crate `kernel`, with the kit's own compiler.
-
-    python3 -B -m library.building [MODULE]      prints the folder of the archive; without MODULE the crate is proved
-"""
+"""Builds libgustlantern.a for this machine from the LLVM module of the crate `kernel`, with the kit's own compiler; prints its folder."""
 import os
 import sys
 from pathlib import Path
 
+from tools.needs import need, words_of
+from tools.running import end_quietly
 from device.building import plain_module
 from device.kit import ROOT, NotBuilt, command, module_of, tool
 
@@ -25,12 +24,17 @@ def archive(module: Path, folder: Path = HOST) -> Path:
     return folder
 
 
-def main(words) -> None:
+def main() -> None:
+    parser = words_of("python3 -B -m library.building", __doc__)
+    parser.add_argument("module", nargs="?", type=Path, metavar="MODULE", help="an LLVM module that was kept; nothing is proved then")
+    module = parser.parse_args().module
+    need("rt")
+    end_quietly()
     try:
-        print(archive(Path(words[0]) if words else module_of()))
+        print(archive(module or module_of()))
     except NotBuilt as reason:
         sys.exit(str(reason))
 
 
 if __name__ == "__main__":
-    main(sys.argv[1:])
+    main()

@@ -10,10 +10,26 @@ PART = {".rt": re.compile(r'^ *(?:pub )?(?:extern "C" )?(?:fn|const) (\w+)', re.
         ".antt": re.compile(r"^(?!use |--)(?:(?:pub|abbrev|unfoldable|record|data) )*([\w'·-]+)", re.MULTILINE)}
 
 
+def uses():
+    """What each crate of crates.txt uses, in its order."""
+    lines = (line.split("#")[0].partition(":") for line in (ROOT / "crates.txt").read_text().splitlines())
+    return {name.strip(): used.split() for name, _, used in lines if name.strip()}
+
+
 def listed():
     """The names of crates.txt, in its order."""
-    lines = (line.split("#")[0] for line in (ROOT / "crates.txt").read_text().splitlines())
-    return [line.split(":")[0].strip() for line in lines if line.strip()]
+    return list(uses())
+
+
+def reached(names):
+    """Crates of crates.txt and all that they use of it."""
+    used, found, rest = uses(), set(), list(names)
+    while rest:
+        name = rest.pop()
+        if name in used and name not in found:
+            found.add(name)
+            rest += used[name]
+    return found
 
 
 def text_of(crate, folder, ending):

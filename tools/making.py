@@ -2,7 +2,7 @@
 import re
 import sys
 
-from counting import ROOT, counts, listed, places
+from tools.counting import ROOT, counts, listed, places
 
 MEASURES, PROMISES = ROOT / "docs" / "MEASURES.md", ROOT / "docs" / "PROMISES.md"
 COLUMNS = ("crate", "functions", "lines of code", "of definitions", "of proofs", "wrong programs", "seconds", "memory, MiB")

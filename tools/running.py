@@ -1,0 +1,88 @@
+"""Running a command of which nothing stays behind: no process and no temporary file, however it ends."""
+import contextlib
+import os
+import select
+import signal
+import subprocess
+import sys
+import tempfile
+import time
+from typing import Callable, Iterator, List, Optional
+
+from tools.lock import ROOT
+
+INTERRUPTS = (signal.SIGINT, signal.SIGTERM, signal.SIGHUP)
+# Seconds between two looks, and for a group to end after it was told to.
+PACE, PATIENCE = 0.2, 5
+# With its memory in large pages the prover takes about a tenth less time. rt waits for a whole batch of checks, and up to six crates need
+# nothing of each other: in batches of four, fewer wait.
+SETTINGS = {"GLIBC_TUNABLES": "glibc.malloc.hugetlb=1", "RT_JOBS": os.environ.get("RT_JOBS", "4")}
+
+
+def end_quietly() -> None:
+    """An interrupted command ends with the status that tells so, and prints no trace."""
+    for number in INTERRUPTS:
+        signal.signal(number, lambda number, frame: sys.exit(128 + number))
+
+
+@contextlib.contextmanager
+def noted_interrupts() -> Iterator[List[int]]:
+    """What would end this command is only noted, so that it can't come between the start of a group and its end."""
+    numbers: List[int] = []
+    before = {number: signal.signal(number, lambda number, frame: numbers.append(number)) for number in INTERRUPTS}
+    try:
+        yield numbers
+    finally:
+        for number, handler in before.items():
+            signal.signal(number, handler)
+
+
+def run(words: List[str], take: Optional[Callable[[str], None]] = None, tick: Callable[[], None] = lambda: None, **settings) -> int:
+    """The status of a command that runs in a group of its own; where take is given it is handed each line that is printed."""
+    streams = {} if take is None else {"stdout": subprocess.PIPE, "stderr": subprocess.STDOUT}
+    with tempfile.TemporaryDirectory(prefix="gustlantern-") as folder, noted_interrupts() as numbers:
+        # rt runs programs there, as nobody where it runs as root.
+        os.chmod(folder, 0o711)
+        environment = {**os.environ, **SETTINGS, **settings, "TMPDIR": folder}
+        ran = subprocess.Popen(words, stdin=subprocess.DEVNULL, start_new_session=True, env=environment, cwd=ROOT, **streams)
+        try:
+            for line in lines_of(ran):
+                if numbers:
+                    sys.exit(128 + numbers[0])
+                if line:
+                    take(line)
+                tick()
+        finally:
+            end_group(ran)
+    return ran.returncode if ran.returncode >= 0 else 128 - ran.returncode
+
+
+def lines_of(ran: subprocess.Popen) -> Iterator[str]:
+    """The lines of a command until it has ended, and an empty one wherever there is none for a while."""
+    begun = b""
+    while ran.stdout:
+        if select.select([ran.stdout], [], [], PACE)[0]:
+            more = os.read(ran.stdout.fileno(), 65536)
+            *whole, begun = (begun + more).split(b"\n")
+            yield from (line.decode(errors="replace") + "\n" for line in whole)
+            if not more:
+                break
+        yield ""
+    if begun:
+        yield begun.decode(errors="replace")
+    while ran.poll() is None:
+        time.sleep(PACE / 10)
+        yield ""
+
+
+def end_group(ran: subprocess.Popen) -> None:
+    """Ends what is left of a command's group."""
+    with contextlib.suppress(ProcessLookupError):
+        for number in (signal.SIGTERM, signal.SIGKILL):
+            os.killpg(ran.pid, number)
+            until = time.monotonic() + PATIENCE
+            while time.monotonic() < until:
+                ran.poll()
+                os.killpg(ran.pid, 0)
+                time.sleep(PACE / 10)
+    ran.wait()
