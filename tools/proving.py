@@ -50,8 +50,10 @@ def prove(crates: Sequence[str]) -> None:
 def main(words: List[str]) -> int:
     parser = words_of("python3 -B -m tools.proving", __doc__)
     parser.add_argument("verb", choices=("check", "hold"))
-    parser.add_argument("words", nargs="+", metavar="WORD")
+    parser.add_argument("words", nargs="...", metavar="WORD ..")
     chosen = parser.parse_args(words)
+    if not chosen.words:
+        parser.error(f"{chosen.verb} needs a word")
     need("rt")
     end_quietly()
     if chosen.verb == "hold":

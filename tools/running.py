@@ -7,6 +7,7 @@ import subprocess
 import sys
 import tempfile
 import time
+from pathlib import Path
 from typing import Callable, Iterator, List, Optional
 
 from tools.lock import ROOT
@@ -40,7 +41,7 @@ def noted_interrupts() -> Iterator[List[int]]:
 def run(words: List[str], take: Optional[Callable[[str], None]] = None, tick: Callable[[], None] = lambda: None, **settings) -> int:
     """The status of a command that runs in a group of its own; where take is given it is handed each line that is printed."""
     streams = {} if take is None else {"stdout": subprocess.PIPE, "stderr": subprocess.STDOUT}
-    with tempfile.TemporaryDirectory(prefix="gustlantern-") as folder, noted_interrupts() as numbers:
+    with noted_interrupts() as numbers, tempfile.TemporaryDirectory(prefix="gustlantern-") as folder:
         # rt runs programs there, as nobody where it runs as root.
         os.chmod(folder, 0o711)
         environment = {**os.environ, **SETTINGS, **settings, "TMPDIR": folder}
@@ -75,14 +76,22 @@ def lines_of(ran: subprocess.Popen) -> Iterator[str]:
         yield ""
 
 
+def runs(group: int) -> bool:
+    """Whether a process of a group still runs: one that has ended may stay in the system's list until its parent looks."""
+    for file in Path("/proc").glob("[0-9]*/stat"):
+        with contextlib.suppress(OSError):
+            state, _, its_group = file.read_text(errors="replace").rpartition(")")[2].split()[:3]
+            if int(its_group) == group and state != "Z":
+                return True
+    return False
+
+
 def end_group(ran: subprocess.Popen) -> None:
     """Ends what is left of a command's group."""
-    with contextlib.suppress(ProcessLookupError):
-        for number in (signal.SIGTERM, signal.SIGKILL):
+    for number in (signal.SIGTERM, signal.SIGKILL):
+        with contextlib.suppress(ProcessLookupError):
             os.killpg(ran.pid, number)
-            until = time.monotonic() + PATIENCE
-            while time.monotonic() < until:
-                ran.poll()
-                os.killpg(ran.pid, 0)
-                time.sleep(PACE / 10)
+        until = time.monotonic() + PATIENCE
+        while runs(ran.pid) and time.monotonic() < until:
+            time.sleep(PACE / 10)
     ran.wait()

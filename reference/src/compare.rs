@@ -1,26 +1,25 @@
 //! Feeds sessions to another bench program and to the one here, and compares what both print.
 
-use std::io::{self, Read, Write};
+use std::io::{self, Read};
 use std::path::PathBuf;
-use std::process::{Child, ChildStdin, Command, Stdio};
+use std::process::{Child, Command, Stdio};
+use std::sync::atomic::{AtomicU64, Ordering};
 use std::sync::mpsc;
 use std::thread;
 use std::time::Duration;
 
 use crate::bench::{output, Bench};
+use crate::delivery::Delivery;
+use crate::long::{Passage, LONG_SITUATIONS};
 use crate::sessions::session;
 use crate::situations::{Moment, SITUATIONS};
 use crate::tally::Tally;
 
 /// How long the other program may take for one session.
-const LIMIT: Duration = Duration::from_secs(20);
+const LIMIT: Duration = Duration::from_secs(60);
 
-/// Every so many sessions the input comes in two pieces with a pause between, so that a program
-/// that takes a short read for the end of input is found.
-const IN_PIECES: u64 = 16;
-
-/// The pause; longer than a program takes to start and read what is there.
-const PAUSE: Duration = Duration::from_millis(25);
+/// How many sessions are played at once.
+const AT_ONCE: usize = 2;
 
 /// The most bytes of a line that a report shows; the bench's own lines are shorter.
 const SHOWN: usize = 80;
@@ -53,19 +52,45 @@ pub struct Comparison {
     pub tally: Tally,
     /// How often each situation came up.
     pub situations: [u64; SITUATIONS.len()],
+    /// How often each situation of long sessions came up.
+    pub long: [u64; LONG_SITUATIONS.len()],
     pub difference: Option<Difference>,
 }
 
 impl Comparison {
+    /// Every situation with how often it came up.
+    pub fn situations(&self) -> impl Iterator<Item = (&'static str, u64)> + '_ {
+        let names = SITUATIONS.iter().map(|(name, _)| *name);
+        let names = names.chain(LONG_SITUATIONS.iter().map(|(name, _)| *name));
+        names.zip(self.situations.iter().chain(&self.long).copied())
+    }
+
     /// The situations that never came up.
     pub fn unmet(&self) -> Vec<&'static str> {
-        let counted = SITUATIONS.iter().zip(&self.situations);
-        let unmet = counted.filter(|(_, count)| **count == 0);
-        unmet.map(|((name, _), _)| *name).collect()
+        let unmet = self.situations().filter(|(_, count)| *count == 0);
+        unmet.map(|(name, _)| name).collect()
+    }
+
+    /// Both together; of two differences that of the first session.
+    fn with(mut self, other: Comparison) -> Comparison {
+        self.tally.add(&other.tally);
+        for (count, more) in self.situations.iter_mut().zip(other.situations) {
+            *count += more;
+        }
+        for (count, more) in self.long.iter_mut().zip(other.long) {
+            *count += more;
+        }
+        let differences = [self.difference, other.difference].into_iter().flatten();
+        self.difference = differences.min_by_key(|difference| difference.session);
+        self
     }
 
     /// Counts a session's lines and situations.
-    pub fn count(&mut self, input: &[u8]) {
+    pub fn count(&mut self, input: &[u8], lines: &[u8], delivery: Delivery) {
+        let passage = Passage::new(input, lines, delivery);
+        for (count, (_, holds)) in self.long.iter_mut().zip(LONG_SITUATIONS) {
+            *count += u64::from(holds(&passage));
+        }
         let mut bench = Bench::new(input);
         let mut before = bench.tables().cloned();
         while let Some(line) = bench.next() {
@@ -89,14 +114,37 @@ impl Comparison {
 /// Compares session by session up to the first difference. An error is the other program's failure
 /// to run.
 pub fn compare(settings: &Settings) -> io::Result<Comparison> {
+    let next = AtomicU64::new(settings.from);
+    let parts = thread::scope(|scope| {
+        let part = || scope.spawn(|| compare_from(settings, &next));
+        let workers: Vec<_> = (0..AT_ONCE).map(|_| part()).collect();
+        let ended = workers.into_iter().map(|worker| worker.join());
+        ended
+            .map(|part| part.expect("a comparison ends by itself"))
+            .collect::<io::Result<Vec<_>>>()
+    })?;
+    Ok(parts
+        .into_iter()
+        .fold(Comparison::default(), Comparison::with))
+}
+
+/// Compares the next session that no other worker has, and so on.
+fn compare_from(settings: &Settings, next: &AtomicU64) -> io::Result<Comparison> {
     let mut comparison = Comparison::default();
-    for number in settings.from..settings.from + settings.sessions {
+    let behind = settings.from + settings.sessions;
+    loop {
+        let number = next.fetch_add(1, Ordering::SeqCst);
+        if number >= behind {
+            break;
+        }
         let input = session(settings.seed, number);
-        comparison.count(&input);
         let here = output(&input).into_bytes();
-        let in_pieces = number % IN_PIECES == IN_PIECES - 1;
-        let there = other_output(&settings.program, &input, in_pieces)?;
+        let delivery = Delivery::of(number);
+        comparison.count(&input, &here, delivery);
+        let there = other_output(&settings.program, &input, delivery)?;
         if here != there {
+            // The sessions before this one have all begun, and no other begins.
+            next.store(behind, Ordering::SeqCst);
             comparison.difference = Some(Difference {
                 session: number,
                 input,
@@ -110,15 +158,15 @@ pub fn compare(settings: &Settings) -> io::Result<Comparison> {
 }
 
 /// What the other program prints; where it does not end by itself, a line that says so follows.
-fn other_output(program: &[String], input: &[u8], in_pieces: bool) -> io::Result<Vec<u8>> {
+fn other_output(program: &[String], input: &[u8], delivery: Delivery) -> io::Result<Vec<u8>> {
     let mut child = Command::new(&program[0])
         .args(&program[1..])
         .stdin(Stdio::piped())
         .stdout(Stdio::piped())
         .spawn()?;
     if let Some(stdin) = child.stdin.take() {
-        let input = input.to_vec();
-        thread::spawn(move || feed(stdin, &input, in_pieces));
+        let (input, process) = (input.to_vec(), child.id());
+        thread::spawn(move || delivery.feed(stdin, &input, process));
     }
     let printed = printed(&mut child);
     let Ok(mut printed) = printed.recv_timeout(LIMIT) else {
@@ -130,19 +178,6 @@ fn other_output(program: &[String], input: &[u8], in_pieces: bool) -> io::Result
         printed.extend(b"(ended by a signal)\n");
     }
     Ok(printed)
-}
-
-/// Writes the input. A program that stops at a bad record need not read the rest, so that a closed
-/// pipe is no fault.
-fn feed(mut stdin: ChildStdin, input: &[u8], in_pieces: bool) {
-    let (first, second) = input.split_at(input.len() / 3);
-    if stdin.write_all(first).is_err() {
-        return;
-    }
-    if in_pieces {
-        thread::sleep(PAUSE);
-    }
-    let _ = stdin.write_all(second);
 }
 
 /// Everything the child prints, once it has closed its output.

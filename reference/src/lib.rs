@@ -7,7 +7,7 @@
 //! The machine: [`counters`], [`answers`], [`tables`], [`machine`]. The records: [`records`]
 //! (reading), [`writing`]. The question: [`order`]. The program: [`bench`]. Making sessions:
 //! [`random`], [`habits`], [`maker`], [`hostile`], [`breakage`], [`sessions`]. Comparing:
-//! [`compare`], [`tally`], [`situations`].
+//! [`compare`], [`delivery`], [`tally`], [`situations`], [`long`].
 //!
 //! Commands, each built with `cargo build --release --offline`:
 //!
@@ -26,8 +26,10 @@ pub mod bench;
 pub mod breakage;
 pub mod compare;
 pub mod counters;
+pub mod delivery;
 pub mod habits;
 pub mod hostile;
+pub mod long;
 pub mod machine;
 pub mod maker;
 pub mod order;

@@ -1,8 +1,11 @@
-//! The sessions of a seed: session W first, then plausible and hostile ones.
+//! The sessions of a seed: session W first, then plausible and hostile ones, and some long ones.
 
+use crate::bench::output;
 use crate::breakage::{changed, no_fresh, torn};
 use crate::counters::{Version, OBJECTS};
+use crate::delivery::{is_long, Delivery};
 use crate::habits::Habit;
+use crate::long::{Passage, LONG};
 use crate::maker::{event_bytes, record_bytes, Maker};
 use crate::random::Random;
 use crate::records::{Event, Record};
@@ -61,6 +64,9 @@ pub fn session(seed: u64, number: u64) -> Vec<u8> {
         return session_w();
     }
     let mut random = Random::new(seed, number);
+    if is_long(number) {
+        return long(random);
+    }
     match random.weighted(&[58, 4, 38]) {
         0 => plausible(random),
         1 => lasting(random),
@@ -130,6 +136,37 @@ pub fn lasting(mut random: Random) -> Vec<u8> {
     }
     maker.add_event(call(1, object, 0, 0));
     maker.close();
+    maker.bytes
+}
+
+/// A session of more bytes than the bench's buffers hold, of input and of output, with a record and
+/// a line across each of their ends.
+pub fn long(mut random: Random) -> Vec<u8> {
+    loop {
+        let mut maker = begin(random);
+        let percent = maker.random.pick(&[0, 5, 30]);
+        while maker.bytes.len() <= LONG || output(&maker.bytes).len() <= LONG {
+            maker.go_on_hostile(1000, percent);
+        }
+        let lines = output(&maker.bytes);
+        if Passage::new(&maker.bytes, lines.as_bytes(), Delivery::Whole).crosses() {
+            return ended(maker);
+        }
+        random = maker.random;
+    }
+}
+
+/// The records with an end: all read at last, a record that stops the bench, or a torn one.
+fn ended(mut maker: Maker) -> Vec<u8> {
+    match maker.random.below(3) {
+        0 => maker.close(),
+        1 => {
+            let record = maker.stopping_record();
+            maker.add(&record);
+            maker.go_on(3);
+        }
+        _ => maker.bytes.truncate(maker.bytes.len() - 1),
+    }
     maker.bytes
 }
 

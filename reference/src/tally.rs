@@ -78,6 +78,14 @@ impl Tally {
         self.0[row(subject)][number(answer)] += 1;
     }
 
+    /// Adds the counts of another.
+    pub fn add(&mut self, other: &Tally) {
+        let counts = self.0.iter_mut().flatten();
+        for (count, more) in counts.zip(other.0.iter().flatten()) {
+            *count += more;
+        }
+    }
+
     /// All lines counted.
     pub fn lines(&self) -> u64 {
         self.0.iter().flatten().sum()

@@ -2,9 +2,10 @@
 
 mod common;
 
-use reference::bench::{Bench, BUFFER};
+use reference::bench::{output, Bench, BUFFER};
 use reference::compare::Comparison;
 use reference::counters::SLOTS;
+use reference::delivery::Delivery;
 use reference::records::{read, End, Record};
 use reference::sessions::{measured, session};
 use reference::tables::Tables;
@@ -96,8 +97,9 @@ fn every_end_of_a_run_reads_back() {
 #[test]
 fn sessions_reach_every_number_and_situation() {
     let mut comparison = Comparison::default();
-    for number in 0..1500 {
-        comparison.count(&session(1, number));
+    for number in 0..3000 {
+        let input = session(1, number);
+        comparison.count(&input, output(&input).as_bytes(), Delivery::of(number));
     }
     assert_eq!(comparison.tally.missing(), Vec::<String>::new());
     assert_eq!(comparison.tally.unexpected(), Vec::<String>::new());
