@@ -69,7 +69,11 @@ impl Delivery {
         for (place, piece) in input.chunks(size.max(1)).enumerate() {
             match self {
                 Delivery::InTwo if place > 0 => thread::sleep(PAUSE),
-                Delivery::Pieces(_) => while works(&mut state) {},
+                Delivery::Pieces(_) => {
+                    while works(&mut state) {
+                        thread::yield_now();
+                    }
+                }
                 _ => {}
             }
             if stdin.write_all(piece).is_err() {
@@ -79,13 +83,14 @@ impl Delivery {
     }
 }
 
-/// Whether a process has still to do before it waits for input: it does not sleep. Writing to a
-/// pipe wakes its reader before the write ends, so that a reader that sleeps has taken all.
+/// Whether a process has still to do before it waits for input: it runs, or waits for a disk.
+/// Writing to a pipe wakes its reader before the write ends, so that one that sleeps has taken all.
 fn works(state: &mut Option<File>) -> bool {
     let mut text = [0; 128];
     let Some(file) = state else { return false };
     let length = file.rewind().and_then(|()| file.read(&mut text));
     let text = &text[..length.unwrap_or(0)];
     let name_end = text.iter().rposition(|byte| *byte == b')');
-    name_end.is_some_and(|end| text.get(end + 2) == Some(&b'R'))
+    let letter = name_end.and_then(|end| text.get(end + 2));
+    matches!(letter, Some(b'R' | b'D'))
 }
