@@ -12,7 +12,6 @@ from typing import Callable, Iterator, List, Optional
 
 from tools.lock import ROOT
 
-INTERRUPTS = (signal.SIGINT, signal.SIGTERM, signal.SIGHUP)
 # Seconds between two looks, and for a group to end after it was told to.
 PACE, PATIENCE = 0.2, 5
 # With its memory in large pages the prover takes about a tenth less time. rt waits for a whole batch of checks, and up to six crates need
@@ -20,9 +19,15 @@ PACE, PATIENCE = 0.2, 5
 SETTINGS = {"GLIBC_TUNABLES": "glibc.malloc.hugetlb=1", "RT_JOBS": os.environ.get("RT_JOBS", "4")}
 
 
+def interrupts() -> List[signal.Signals]:
+    """What ends a command from outside. Under nohup a terminal that goes does not mean it."""
+    hung_up = [] if signal.getsignal(signal.SIGHUP) == signal.SIG_IGN else [signal.SIGHUP]
+    return [signal.SIGINT, signal.SIGTERM, *hung_up]
+
+
 def end_quietly() -> None:
     """An interrupted command ends with the status that tells so, and prints no trace."""
-    for number in INTERRUPTS:
+    for number in interrupts():
         signal.signal(number, lambda number, frame: sys.exit(128 + number))
 
 
@@ -30,7 +35,7 @@ def end_quietly() -> None:
 def noted_interrupts() -> Iterator[List[int]]:
     """What would end this command is only noted, so that it can't come between the start of a group and its end."""
     numbers: List[int] = []
-    before = {number: signal.signal(number, lambda number, frame: numbers.append(number)) for number in INTERRUPTS}
+    before = {number: signal.signal(number, lambda number, frame: numbers.append(number)) for number in interrupts()}
     try:
         yield numbers
     finally:

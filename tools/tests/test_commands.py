@@ -16,7 +16,9 @@ COMMANDS = {"archives": ["rt"], "compare": ["rt", "cargo"], "documents": [], "me
 WRONG = {"compare": ["--sessions", "many"], "measure": ["no_such_crate"], "vectors": ["no_such_program"]}
 
 
-class Words(unittest.TestCase):
+class Alone(unittest.TestCase):
+    """Commands with next to nothing on the PATH."""
+
     def setUp(self) -> None:
         folder = tempfile.TemporaryDirectory()
         self.addCleanup(folder.cleanup)
@@ -25,10 +27,13 @@ class Words(unittest.TestCase):
             (self.path / name).symlink_to(shutil.which(name))
 
     def run_alone(self, *words: str) -> Tuple[int, str, str]:
-        """The status of a command, what it prints and what it complains of, with next to nothing on the PATH."""
-        ended = subprocess.run(words, cwd=self.path, env={"PATH": str(self.path)}, stdout=subprocess.PIPE, stderr=subprocess.PIPE, universal_newlines=True)
+        """The status of a command, what it prints and what it complains of."""
+        ended = subprocess.run(words, cwd=self.path, env={"PATH": str(self.path)}, stdout=subprocess.PIPE, stderr=subprocess.PIPE,
+                               universal_newlines=True)
         return ended.returncode, ended.stdout, ended.stderr
 
+
+class Commands(Alone):
     def command(self, name: str, *words: str) -> Tuple[int, str, str]:
         return self.run_alone(sys.executable, "-B", str(ROOT / "tools" / name), *words)
 
@@ -67,7 +72,7 @@ class Words(unittest.TestCase):
         self.assertEqual((status, said), (1, "this project needs Python 3.9 or later, and this is 3.8\n"))
 
 
-class TestCommand(Words):
+class TestCommand(Alone):
     def shell(self, *words: str) -> Tuple[int, str, str]:
         return self.run_alone("/bin/sh", str(ROOT / "test"), *words)
 

@@ -35,8 +35,8 @@ class Notes(Clone):
         self.proves_again()
 
     def test_bytes_that_move_from_a_file_to_the_next_prove_again(self):
-        self.write("crates/lower/specs/Lib.antt", "two\nt")
-        self.write("crates/lower/src/lib.rt", "wo\n")
+        self.write("crates/lower/specs/Lib.antt", "two\no")
+        self.write("crates/lower/src/lib.rt", "ne\n")
         self.proves_again()
 
     def test_another_kit_proves_again(self):

@@ -67,7 +67,8 @@ class OfStandIn(unittest.TestCase):
         """The comparison of one session with a stand-in."""
         _, printed = random_session(number, 1)
         command = [str(programs() / "compare"), "--from", str(number), "--sessions", "1", "--file", str(Path(self.folder) / "difference")]
-        return subprocess.run([*command, "--", *words(self.folder, printed.encode(), fault)], stdout=subprocess.PIPE, universal_newlines=True)
+        return subprocess.run([*command, "--", *words(self.folder, printed.encode(), fault)], stdout=subprocess.PIPE, stderr=subprocess.PIPE,
+                              universal_newlines=True)
 
     def test_a_comparison_finds_faults_past_the_buffers(self):
         for fault, number in FOUND_LONG.items():
@@ -85,6 +86,7 @@ class OfStandIn(unittest.TestCase):
                 self.assertIn("count over 250 at supremum 255: never came up", ended.stdout)
 
     def test_a_whole_comparison_misses_nothing(self):
-        ended = subprocess.run([str(programs() / name) for name in ("compare",)] + ["--", str(programs() / "bench")], stdout=subprocess.PIPE, universal_newlines=True)
+        compare, bench = (str(programs() / name) for name in ("compare", "bench"))
+        ended = subprocess.run([compare, "--", bench], stdout=subprocess.PIPE, universal_newlines=True)
         self.assertEqual(ended.returncode, 0, ended.stdout)
         self.assertRegex(ended.stdout.splitlines()[-1], r"no difference, and all came up that sessions have to reach$")
