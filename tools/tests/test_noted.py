@@ -59,6 +59,7 @@ class Notes(Clone):
     def test_a_source_that_changes_meanwhile_is_not_noted(self):
         self.write("crates/upper/stdin", "five\n")
         self.prove("upper", STAND_IN_CHANGES="crates/lower/src/lib.rt")
+        self.write("crates/lower/src/lib.rt", "one\n")
         self.known = self.calls()
         self.proves_again()
 

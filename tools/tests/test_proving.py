@@ -2,6 +2,7 @@
 import io
 import os
 import pty
+import re
 import signal
 import sys
 
@@ -98,7 +99,8 @@ class Shown(Clone):
             progress.clear()
             shown = os.read(ours, 4096).decode()
         os.close(ours)
-        self.assertEqual(shown, f"{CLEAR}proving: 1 of 2 crates done, lower last, 0 s{CLEAR}proving: 2 of 2 crates done, upper last, 0 s{CLEAR}")
+        one, two = ("proving: 1 of 2 crates done, lower last, N s", "proving: 2 of 2 crates done, upper last, N s")
+        self.assertEqual(re.sub(r"\d+ s", "N s", shown), f"{CLEAR}{one}{CLEAR}{two}{CLEAR}")
 
     def test_elsewhere_a_crate_has_a_line_once_it_takes_long(self):
         out = io.StringIO()
@@ -108,7 +110,7 @@ class Shown(Clone):
         progress.began -= LONG + 2
         progress.take("rt: upper proved, and its run FAILED (9 s)\n")
         progress.clear()
-        self.assertEqual(out.getvalue(), f"proving: 2 of 2 crates done, upper last, {LONG + 2} s\n")
+        self.assertRegex(out.getvalue(), r"\Aproving: 2 of 2 crates done, upper last, \d+ s\n\Z")
 
     def test_what_rt_prints_comes_to_the_terminal_and_goes(self):
         ours, theirs = pty.openpty()
