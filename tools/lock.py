@@ -3,10 +3,10 @@ import contextlib
 import fcntl
 import os
 import sys
-from pathlib import Path
 from typing import Iterator
 
-ROOT = Path(__file__).resolve().parent.parent
+from tools.counting import ROOT
+
 # Who holds the lock tells what it starts by this word of the environment: the clone that is held.
 HELD = "GUSTLANTERN_HELD"
 WAITING = "another command is proving here; waiting"

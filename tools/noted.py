@@ -33,7 +33,7 @@ def program(crate: str) -> str:
 
 
 def noted(crate: str) -> List[str]:
-    """Both digests as they were when the program was proved; nothing of a library, or of a program that was not."""
+    """Both digests as they were when a program was proved; nothing where none was."""
     file = TARGET / "proved" / crate
     return file.read_text().split() if file.is_file() else []
 
@@ -51,5 +51,6 @@ def note(crate: str, proved_from: str) -> None:
 
 def distrust(crate: str) -> None:
     """Has rt make a program again whose file is gone or is not the one noted: rt itself looks at the sources alone."""
-    if program(crate) not in (noted(crate)[1:] or [program(crate)]) or program(crate) == NO_PROGRAM:
+    is_program, found = (CRATES / crate / "src" / "main.rt").is_file(), program(crate)
+    if is_program and (found == NO_PROGRAM or found not in (noted(crate)[1:] or [found])):
         (TARGET / "stamp" / crate).unlink(missing_ok=True)

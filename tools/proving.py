@@ -6,7 +6,7 @@
 import sys
 from typing import List, Sequence
 
-from tools.counting import listed, reached
+from tools.counting import reached
 from tools.lock import held
 from tools.needs import need, words_of
 from tools.noted import distrust, is_proved, note, sources
@@ -36,13 +36,13 @@ def rt(words: Sequence[str], crates: Sequence[str], **settings: str) -> None:
 
 def prove(crates: Sequence[str]) -> None:
     """Proves crates and all that they use, unless they are programs that are proved."""
-    if crates and all(map(is_proved, crates)):
+    if all(map(is_proved, crates)):
         return
     with held():
         for crate in crates:
             distrust(crate)
         proved_from = {crate: sources(crate) for crate in crates}
-        rt(["check", *crates], crates or listed())
+        rt(["check", *crates], crates)
         for crate in crates:
             note(crate, proved_from[crate])
 

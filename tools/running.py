@@ -10,7 +10,7 @@ import time
 from pathlib import Path
 from typing import Callable, Iterator, List, Optional
 
-from tools.lock import ROOT
+from tools.counting import ROOT
 
 # Seconds between two looks, and for a group to end after it was told to.
 PACE, PATIENCE = 0.2, 5
@@ -54,12 +54,14 @@ def run(words: List[str], take: Optional[Callable[[str], None]] = None, tick: Ca
         try:
             for line in lines_of(ran):
                 if numbers:
-                    sys.exit(128 + numbers[0])
+                    break
                 if line:
                     take(line)
                 tick()
         finally:
             end_group(ran)
+    if numbers:
+        sys.exit(128 + numbers[0])
     return ran.returncode if ran.returncode >= 0 else 128 - ran.returncode
 
 

@@ -3,11 +3,11 @@ import sys
 import unittest
 from pathlib import Path
 
-FOLDER = Path(__file__).resolve().parent
-ROOT = FOLDER.parent.parent
+from tools.counting import ROOT
+from tools.needs import words_of
 
-if sys.argv[1:] not in ([], ["program"]):
-    sys.exit("python3 -B -m tools.tests [program]")
-pattern = "program_*.py" if sys.argv[1:] else "test_*.py"
-found = unittest.defaultTestLoader.discover(str(FOLDER), pattern=pattern, top_level_dir=str(ROOT))
+parser = words_of("python3 -B -m tools.tests", __doc__)
+parser.add_argument("what", nargs="?", choices=("program",), help="the tests of the proved bench")
+pattern = f"{parser.parse_args().what or 'test'}_*.py"
+found = unittest.defaultTestLoader.discover(str(Path(__file__).resolve().parent), pattern=pattern, top_level_dir=str(ROOT))
 sys.exit(not unittest.TextTestRunner().run(found).wasSuccessful())

@@ -8,7 +8,7 @@ import unittest
 from pathlib import Path
 from typing import Tuple
 
-from tools.lock import ROOT
+from tools.counting import ROOT
 
 # Each command and the tools that it names where they are missing.
 COMMANDS = {"archives": ["rt"], "compare": ["rt", "cargo"], "documents": [], "measure": ["rt"],

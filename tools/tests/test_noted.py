@@ -68,7 +68,9 @@ class Notes(Clone):
         self.prove("upper")
         self.assertEqual(self.calls(), self.known)
 
-    def test_a_library_is_always_asked_for(self):
+    def test_a_library_is_always_asked_for_and_keeps_its_stamp(self):
+        stamp = self.write("target/stamp/lower", "")
         for _ in range(2):
             self.prove("lower")
+            self.assertTrue(stamp.exists())
         self.assertEqual(self.calls(), self.known + ["begin", "end"] * 2)
