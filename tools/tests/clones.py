@@ -60,9 +60,11 @@ class Clone(unittest.TestCase):
 
     def start(self, *words: str, stderr: int = subprocess.PIPE, **settings: str) -> subprocess.Popen:
         """Starts the command that proves, with settings of the environment."""
+        return self.launch([sys.executable, "-B", "-m", "tools.proving", *words], stderr, **settings)
+
+    def launch(self, command: List[str], stderr: int = subprocess.PIPE, **settings: str) -> subprocess.Popen:
         known = {name: value for name, value in os.environ.items() if name != HELD}
         places = {"PATH": f"{self.root / 'bin'}:{os.environ['PATH']}", "TMPDIR": str(self.root / "room")}
-        command = [sys.executable, "-B", "-m", "tools.proving", *words]
         ran = subprocess.Popen(command, cwd=self.root, env={**known, **places, **settings}, stdin=subprocess.DEVNULL,
                                 stdout=subprocess.PIPE, stderr=stderr, universal_newlines=True)
         self.addCleanup(self.end, ran)
@@ -97,9 +99,13 @@ class Clone(unittest.TestCase):
                 continue
         return running + [file.name for file in (self.root / "room").iterdir()]
 
-    def interrupt(self, ran: subprocess.Popen, number: signal.Signals) -> str:
-        """What a command says that is interrupted while rt proves."""
+    def begins(self, ran: subprocess.Popen) -> None:
+        """Waits until a command has rt prove."""
         while not self.calls():
             self.assertIsNone(ran.poll())
+
+    def interrupt(self, ran: subprocess.Popen, number: signal.Signals) -> str:
+        """What a command says that is interrupted while rt proves."""
+        self.begins(ran)
         ran.send_signal(number)
         return self.ended(ran, 128 + number)

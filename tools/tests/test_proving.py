@@ -3,9 +3,11 @@ import io
 import os
 import pty
 import re
+import shutil
 import signal
 import sys
 
+from tools.counting import ROOT
 from tools.lock import HELD, WAITING
 from tools.progress import CLEAR, LONG, Progress
 from tools.tests.clones import Clone
@@ -16,8 +18,7 @@ CHECK = f"{sys.executable} -B -m tools.proving check"
 class Lock(Clone):
     def test_two_that_prove_do_so_one_behind_the_other(self):
         first = self.start("check", "lower", STAND_IN_SECONDS="0.5")
-        while not self.calls():
-            self.assertIsNone(first.poll())
+        self.begins(first)
         self.assertEqual(self.prove("lower"), WAITING + "\n")
         self.assertEqual(self.ended(first), "")
         self.assertEqual(self.calls(), ["begin", "end"] * 2)
@@ -29,16 +30,14 @@ class Lock(Clone):
 
     def test_a_holder_that_removes_target_still_holds(self):
         holder = self.start("hold", "sh", "-c", "rm -rf target; echo begin >>calls; sleep 1; echo end >>calls")
-        while not self.calls():
-            self.assertIsNone(holder.poll())
+        self.begins(holder)
         self.assertEqual(self.prove("lower"), WAITING + "\n")
         self.assertEqual(self.calls(), ["begin", "end"] * 2)
         self.ended(holder)
 
     def test_a_holder_of_another_clone_holds_nothing_here(self):
         first = self.start("check", "lower", STAND_IN_SECONDS="0.5")
-        while not self.calls():
-            self.assertIsNone(first.poll())
+        self.begins(first)
         self.assertEqual(self.prove("lower", **{HELD: "/elsewhere"}), WAITING + "\n")
         self.ended(first)
 
@@ -73,6 +72,16 @@ class Interrupted(Clone):
         self.ended(waits, 128 + signal.SIGTERM)
         holder.send_signal(signal.SIGINT)
         self.ended(holder, 128 + signal.SIGINT)
+        self.assertEqual(self.left(), [])
+
+    def test_the_test_command_holds_the_lock_and_leaves_nothing(self):
+        shutil.copy(ROOT / "test", self.root)
+        ran = self.launch(["./test"], STAND_IN_SECONDS="50")
+        self.begins(ran)
+        waits = self.start("check", "lower")
+        self.assertEqual(waits.stderr.readline(), WAITING + "\n")
+        self.assertEqual(self.interrupt(waits, signal.SIGTERM), "")
+        self.assertEqual(self.interrupt(ran, signal.SIGINT), "")
         self.assertEqual(self.left(), [])
 
 
