@@ -1,4 +1,5 @@
 """Tests of proving: one at a time, nothing left behind, and progress."""
+import contextlib
 import io
 import os
 import pty
@@ -97,6 +98,15 @@ class Failing(Clone):
         self.assertEqual(self.calls(), [])
 
 
+def shown_on(terminal: int) -> str:
+    """All that was written to a terminal that nobody has any more."""
+    shown = b""
+    with contextlib.suppress(OSError), open(terminal, "rb", buffering=0) as opened:
+        while True:
+            shown += opened.read(4096)
+    return shown.decode()
+
+
 class Shown(Clone):
     def test_a_terminal_has_one_line_that_goes(self):
         ours, theirs = pty.openpty()
@@ -106,8 +116,7 @@ class Shown(Clone):
                 progress.take(line)
                 progress.tick()
             progress.clear()
-            shown = os.read(ours, 4096).decode()
-        os.close(ours)
+        shown = shown_on(ours)
         one, two = ("proving: 1 of 2 crates done, lower last, N s", "proving: 2 of 2 crates done, upper last, N s")
         self.assertEqual(re.sub(r"\d+ s", "N s", shown), f"{CLEAR}{one}{CLEAR}{two}{CLEAR}")
 
@@ -124,9 +133,8 @@ class Shown(Clone):
     def test_what_rt_prints_comes_to_the_terminal_and_goes(self):
         ours, theirs = pty.openpty()
         self.ended(self.start("check", "upper", stderr=theirs, STAND_IN_SECONDS="0.3"))
-        shown = os.read(ours, 4096).decode()
         os.close(theirs)
-        os.close(ours)
+        shown = shown_on(ours)
         self.assertIn(f"{CLEAR}proving: 1 of 2 crates done, lower last", shown)
         self.assertTrue(shown.endswith(CLEAR), shown)
         self.assertNotIn("\n", shown)
