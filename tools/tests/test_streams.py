@@ -82,7 +82,7 @@ class OfStandIn(unittest.TestCase):
             with self.subTest(session=number):
                 ended = self.compared(number)
                 self.assertEqual(ended.returncode, 3, ended.stdout)
-                self.assertRegex(ended.stdout.splitlines()[-1], r"lines, no difference, but \d+ of what sessions have to reach")
+                self.assertRegex(ended.stdout.splitlines()[-1], r"lines, no difference, but not all is reached: \d+ lines above say what$")
                 self.assertIn("count over 250 at supremum 255: never came up", ended.stdout)
 
     def test_a_whole_comparison_misses_nothing(self):

@@ -90,9 +90,7 @@ fn compare_and_report(settings: &Settings) -> std::io::Result<ExitCode> {
     let (sessions, seed, lines) = (settings.sessions, settings.seed, comparison.tally.lines());
     let compared = format!("{sessions} sessions of seed {seed}: {lines} lines, no difference");
     if faults > 0 {
-        println!(
-            "{compared}, but {faults} of what sessions have to reach did not come up as it has to"
-        );
+        println!("{compared}, but not all is reached: {faults} lines above say what");
         return Ok(ExitCode::from(MISSED));
     }
     println!("{compared}, and all came up that sessions have to reach");
