@@ -14,9 +14,10 @@ from tools.counting import ROOT
 
 # Seconds between two looks, and for a group to end after it was told to.
 PACE, PATIENCE = 0.2, 5
-# With its memory in large pages the prover takes about a tenth less time. rt waits for a whole batch of checks, and up to six crates need
-# nothing of each other: in batches of four, fewer wait.
-SETTINGS = {"GLIBC_TUNABLES": "glibc.malloc.hugetlb=1", "RT_JOBS": os.environ.get("RT_JOBS", "4")}
+# With its memory in large pages the prover takes about a tenth less time. rt waits for a whole batch of checks: in large batches fewer wait. A
+# check takes up to two GiB.
+MEMORY = os.sysconf("SC_PHYS_PAGES") * os.sysconf("SC_PAGE_SIZE") >> 30
+SETTINGS = {"GLIBC_TUNABLES": "glibc.malloc.hugetlb=1", "RT_JOBS": os.environ.get("RT_JOBS", str(min(max(MEMORY // 2, 2), 10)))}
 
 
 def interrupts() -> List[signal.Signals]:
