@@ -1,9 +1,11 @@
 // The refusals with their numbers, an answer with its value, and the verdict of an event's rules.
+#![tactic(auto)]
+
 ghost use Rattle.std.specs.Prelude.{◌≡◌, ◌||◌};
 ghost use Rattle.answers.specs.Numbers.{number_of, reply_of};
 
 // R20: the names of the numbers 1 to 12, in their order.
-#[derive(Drop)]
+#[derive(Clone, Copy)]
 pub enum Refusal {
     BadSlot,
     BadObject,
@@ -41,7 +43,7 @@ impl Refusal {
 }
 
 // R11: an event or a writer is accepted with a value, or refused.
-#[derive(Drop)]
+#[derive(Clone, Copy)]
 pub enum Answer {
     Accepted(u32),
     Refused(Refusal),
@@ -70,7 +72,7 @@ impl Answer {
 }
 
 // R19: no rule holds, or the first that does refuses.
-#[derive(Drop)]
+#[derive(Clone, Copy)]
 pub enum Verdict {
     Passes,
     Refuses(Refusal),

@@ -5,7 +5,7 @@ ghost use Rattle.bench.specs.Kept.{Kept};
 use libc::STDIN_FILENO;
 
 // The bytes at hand with those that were read, whether the input has ended, and whether reading has failed.
-#[derive(Drop)]
+#[derive(Clone, Copy)]
 pub struct Input {
     pub hand: usize,
     pub ended: bool,

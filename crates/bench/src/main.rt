@@ -1,5 +1,7 @@
 // The bench program: it reads records from standard input and prints one line for each event, as soon as its record is
 // whole.
+#![tactic(auto)]
+
 mod input;
 mod output;
 

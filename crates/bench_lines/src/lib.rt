@@ -1,4 +1,6 @@
 // R40: the line of an event, and its place in a buffer of lines; `buffers` has what is done with a buffer of input.
+#![tactic(auto)]
+
 ghost use Rattle.std.specs.Prelude.{◌≡◌, ◌∷◌, ◌++◌, ◌+◌, ◌<◌, ◌≤◌, length};
 ghost use Rattle.answers.specs.Numbers.{reply_of};
 ghost use Rattle.bench_lines.specs.Buffers.{lent, put_at, line_put};
@@ -13,7 +15,7 @@ use answers::Answer;
 pub const LIMIT: usize = 35;
 
 // A line is made from its end on: its bytes stand from `from` on.
-#[derive(Drop)]
+#[derive(Clone, Copy)]
 struct Line {
     bytes: [u8; LIMIT],
     from: usize,

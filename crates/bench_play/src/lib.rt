@@ -1,5 +1,7 @@
 // The bench piece by piece: it plays the records of a piece of the input that are certain to be whole, into a lent buffer
 // of lines.
+#![tactic(auto)]
+
 ghost use Rattle.std.specs.Prelude.{◌≡◌, length};
 ghost use Rattle.counters.specs.Sizes.{base};
 ghost use Rattle.bench_play.specs.Bench.{at_first};
@@ -14,7 +16,7 @@ use records::{answer, playable, put};
 use std::num::wrapping_add_u64;
 
 // How the bench stands between two records.
-#[derive(Drop)]
+#[derive(Clone, Copy)]
 pub struct Bench {
     pub tables: Tables,
     pub begun: bool,
@@ -23,7 +25,7 @@ pub struct Bench {
 }
 
 // What comes of a piece: the bench behind it, the bytes taken, the bytes of lines.
-#[derive(Drop)]
+#[derive(Clone, Copy)]
 pub struct Played {
     pub bench: Bench,
     pub taken: usize,
@@ -31,7 +33,7 @@ pub struct Played {
 }
 
 // What comes of a turn of the program: the bytes that stay at hand, the bytes of lines, whether it waits for input.
-#[derive(Drop)]
+#[derive(Clone, Copy)]
 pub struct Turned {
     pub bench: Bench,
     pub kept: usize,

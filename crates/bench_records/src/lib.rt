@@ -1,4 +1,6 @@
 // The bench's work on records, in place over the pump's memory: what the first one gives, and what each further one gives.
+#![tactic(auto)]
+
 ghost use Rattle.std.specs.Prelude.{◌≡◌, length};
 ghost use Rattle.counters.specs.Sizes.{base};
 ghost use Rattle.pump.specs.Held.{held};
@@ -12,7 +14,7 @@ use record_layout::fields::{Fields, Reading};
 
 // What a record gives beside the tables: the answer, whether it prints a line, whether it stops the program, and the
 // bytes that it takes.
-#[derive(Drop)]
+#[derive(Clone, Copy)]
 pub struct Answered {
     pub answer: Answer,
     pub prints: bool,

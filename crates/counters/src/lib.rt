@@ -1,5 +1,7 @@
 // The kinds of numbers that are kept apart (R2), and all that is done with versions: the next one, the difference, the
 // turn, the terminal need, and which of two came first.
+#![tactic(auto)]
+
 ghost use Rattle.std.specs.Prelude.{◌≡◌};
 ghost use Rattle.counters.specs.Versions.{next, difference, turn_at, terminal_need};
 ghost use Rattle.counters.specs.Comparing.{compared};
@@ -10,28 +12,28 @@ pub const SLOTS: u8 = 16;
 pub const OBJECTS: u8 = 24;
 
 // How many slots and how many objects a pump has: the parameter of every step.
-#[derive(Drop)]
+#[derive(Clone, Copy)]
 pub struct Size {
     pub slots: u8,
     pub objects: u8,
 }
 
 // R2: a version, modulo 2^32.
-#[derive(Drop)]
+#[derive(Clone, Copy)]
 pub struct Version(pub u32);
 
 // R3: the count of a pair.
-#[derive(Drop)]
+#[derive(Clone, Copy)]
 pub struct CallCount(pub u8);
 
-#[derive(Drop)]
+#[derive(Clone, Copy)]
 pub struct SlotNo(pub u8);
 
-#[derive(Drop)]
+#[derive(Clone, Copy)]
 pub struct ObjectNo(pub u8);
 
 // R8: the turn of a pair.
-#[derive(Drop)]
+#[derive(Clone, Copy)]
 pub enum Turn {
     Now,
     Wait,
@@ -39,7 +41,7 @@ pub enum Turn {
 }
 
 // R36: which of two versions of one object came first; neither did where they are equal or half the turnover apart.
-#[derive(Drop)]
+#[derive(Clone, Copy)]
 pub enum Comparison {
     A,
     B,

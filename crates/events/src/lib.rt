@@ -1,4 +1,6 @@
 // How a run begins and goes on, by value: fresh tables, an event by its fields, by what was read, and by its bytes.
+#![tactic(auto)]
+
 ghost use Rattle.events.specs.Promises.{FreshGives, StepGives, ReadGives, RecordGives};
 
 use counters::Version;

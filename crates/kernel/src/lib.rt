@@ -1,4 +1,6 @@
 // The library for a kernel in C: every event in place, over memory that the kernel lends.
+#![tactic(auto)]
+
 ghost use Rattle.std.specs.Prelude.{true, false, ◌≡◌};
 ghost use Rattle.counters.specs.Sizes.{base};
 ghost use Rattle.rules.specs.Tables.{fresh_tables};

@@ -1,8 +1,10 @@
 // R14: what a call of each kind makes of the word, and its value.
+#![tactic(auto)]
+
 ghost use Rattle.std.specs.Prelude.{◌≡◌};
 ghost use Rattle.kinds.specs.Kinds.{acted};
 
-#[derive(Drop)]
+#[derive(Clone, Copy)]
 pub struct Acted {
     pub word: u32,
     pub answer: u32,

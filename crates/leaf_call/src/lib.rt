@@ -1,4 +1,6 @@
 // What the rules of a call and of a release say, and what an accepted call makes of its object and of its pair.
+#![tactic(auto)]
+
 ghost use Rattle.std.specs.Prelude.{◌≡◌};
 ghost use Rattle.answers.specs.Order.{decide};
 ghost use Rattle.rules.specs.Refusing.{place_rules, call_rules, release_rules, turn_rules};

@@ -1,4 +1,6 @@
 // How the slot of an end stands, what the rules of an end say of that, and what an end makes of an object.
+#![tactic(auto)]
+
 ghost use Rattle.std.specs.Prelude.{ℕ, ◌≤◌, [], ◌∷◌, ◌≡◌, length, ◌&&◌};
 ghost use Rattle.answers.specs.Order.{decide, ◌when◌};
 ghost use Rattle.answers.specs.declared.Refusal.TheVariants.{Wait, NoRoom};
@@ -15,7 +17,7 @@ use objects::{Object, Pair};
 
 // How a slot stands before its end: whether it is doomed (R10), whether it misses its terminal need (R9), and how many
 // bytes the entries of its record have (R27).
-#[derive(Drop)]
+#[derive(Clone, Copy)]
 pub struct Standing {
     pub doomed: bool,
     pub unmet: bool,

@@ -1,4 +1,6 @@
 // What the rules of a start say of its slot and its list.
+#![tactic(auto)]
+
 ghost use Rattle.std.specs.Prelude.{◌≡◌, length};
 ghost use Rattle.answers.specs.Order.{decide};
 ghost use Rattle.record_layout.specs.Declarations.{declarations_of};

@@ -1,5 +1,7 @@
 // The machine by value: its tables go in with an event, and the new tables come back with the answer. Each step is one copy in and one
 // out around the step in place.
+#![tactic(auto)]
+
 ghost use Rattle.std.specs.Prelude.{true, false, ◌≡◌};
 ghost use Rattle.counters.specs.Sizes.{base};
 ghost use Rattle.rules.specs.Steps.{start_step, call_step, release_step, end_step};
@@ -9,14 +11,14 @@ use answers::Answer;
 use counters::{ObjectNo, SlotNo};
 
 // The pump's memory.
-#[derive(Drop)]
+#[derive(Clone, Copy)]
 pub struct Tables {
     pub words: [u32; 864],
     pub bytes: [u8; 768],
     pub marks: [bool; 1168],
 }
 
-#[derive(Drop)]
+#[derive(Clone, Copy)]
 pub struct Stepped {
     pub tables: Tables,
     pub answer: Answer,

@@ -1,4 +1,5 @@
 // One object and one pair, and what each event but a call makes of one of them.
+#![tactic(auto)]
 
 ghost use Rattle.std.specs.Prelude.{◌≡◌};
 ghost use Rattle.objects.specs.Places.{turn_of, given_out, let_go, settled, restored, restores, declared_with, no_pair};
@@ -6,7 +7,7 @@ ghost use Rattle.objects.specs.Places.{turn_of, given_out, let_go, settled, rest
 use counters::{CallCount, Turn, Version};
 
 // R4: what is kept of an object.
-#[derive(Drop)]
+#[derive(Clone, Copy)]
 pub struct Object {
     pub word: u32,
     pub global: Version,
@@ -15,7 +16,7 @@ pub struct Object {
 }
 
 // R4: what is kept of a slot and an object.
-#[derive(Drop)]
+#[derive(Clone, Copy)]
 pub struct Pair {
     pub declared: bool,
     pub supremum: u8,

@@ -1,4 +1,6 @@
 // The pump of 16 slots and 24 objects, in place: its memory is lent, and nothing of it is copied.
+#![tactic(auto)]
+
 ghost use Rattle.std.specs.Prelude.{true, false, ◌≡◌};
 ghost use Rattle.counters.specs.Sizes.{base};
 ghost use Rattle.rules.specs.Tables.{fresh_tables};

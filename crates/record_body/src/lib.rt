@@ -1,4 +1,6 @@
 // A body of a known kind: the last checks of reading, its length and its content, and its fields.
+#![tactic(auto)]
+
 ghost use Rattle.std.specs.Prelude.{◌≤◌, ◌≡◌, eqb, length};
 ghost use Rattle.counters.specs.Sizes.{base};
 ghost use Rattle.record_layout.specs.Kinds.{shape_of, body_length};

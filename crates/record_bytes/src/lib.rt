@@ -1,4 +1,6 @@
 // Bytes at a place, the numbers that they make, and whether the entries of an end rise.
+#![tactic(auto)]
+
 ghost use Rattle.std.specs.Prelude.{◌+◌, ◌<◌, ◌≤◌, ◌≡◌, length, drop};
 ghost use Rattle.counters.specs.Sizes.{base};
 ghost use Rattle.record_layout.specs.Bytes.{byte_at, half_of, word_of};

@@ -1,4 +1,6 @@
 // Whether fields and a list make a readable record, told before any body is made.
+#![tactic(auto)]
+
 ghost use Rattle.std.specs.Prelude.{◌≡◌};
 ghost use Rattle.counters.specs.Sizes.{base};
 ghost use Rattle.record_layout.specs.Serving.Beside.{items_beside, end_beside, content_beside};

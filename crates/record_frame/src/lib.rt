@@ -1,4 +1,6 @@
 // The frame of the first record, and its body as a part of the caller's bytes.
+#![tactic(auto)]
+
 ghost use Rattle.std.specs.Prelude.{◌≡◌};
 ghost use Rattle.counters.specs.Sizes.{base};
 ghost use Rattle.record_layout.specs.Bytes.{IsPart};

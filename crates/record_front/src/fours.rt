@@ -7,7 +7,7 @@ ghost use Rattle.record_front.specs.Serving.Filled.{in_order};
 
 use record_layout::fields::Fields;
 
-#[derive(Drop)]
+#[derive(Clone, Copy)]
 pub struct Four(pub u8, pub u8, pub u8, pub u8);
 
 // Length and kind, in front of a body with a list of so many bytes.

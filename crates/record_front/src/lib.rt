@@ -1,4 +1,6 @@
 // What stands in front of a record's list: the frame and the head of the body.
+#![tactic(auto)]
+
 ghost use Rattle.std.specs.Prelude.{◌≤◌, ◌≡◌};
 ghost use Rattle.record_layout.specs.Fields.{front_of};
 ghost use Rattle.record_front.specs.Serving.Filled.{filled};

@@ -2,7 +2,7 @@
 use Prim.Native.Nat.{ℕ}
 use mathlib.Core.List.{List}
 use mathlib.Core.Path.{◌≡◌, sym, ap, ◌∙◌}
-use denote.Ref.{Bor, MutBor}
+use denote.Ref.{Bor}
 use lib.ListN.{length}
 use Rattle.record_layout.specs.Bytes.{IsPart}
 
@@ -23,6 +23,6 @@ part_tells r other s place held part again =
     let same : r.now ≡ other.now = part.bytes ∙ sym again.bytes in
     λ i. record { block = (places i).0; offset = (places i).1; long = length (same i); bytes = same i }
 
--- what is left of a slice is the logic's own name of the borrow
-pub seen_but_for_a_name : (r other : MutBor (List ℕ)) → seen r ≡ seen other → r.ghost_name ≡ other.ghost_name → r ≡ other
-seen_but_for_a_name r other same named = λ i. record { ref_ptr = ((same i).block, (same i).offset); ghost_name = named i; now = (same i).bytes }
+-- and nothing else is in a slice
+pub seen_tells : (r other : Bor (List ℕ)) → seen r ≡ seen other → r ≡ other
+seen_tells r other same = λ i. record { ref_ptr = ((same i).block, (same i).offset); now = (same i).bytes }

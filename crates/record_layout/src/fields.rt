@@ -9,7 +9,7 @@ use answers::Refusal;
 use counters::{ObjectNo, SlotNo, Version};
 
 // What a task asks for. The list of a start stays beside it, as a part of the bytes.
-#[derive(Drop)]
+#[derive(Clone, Copy)]
 pub enum Event {
     Start {
         slot: SlotNo,
@@ -33,7 +33,7 @@ pub enum Event {
 
 // The fields of a record: a fresh one, an event, or what an end has written. The words of a fresh one and the entries of an end
 // stay beside them.
-#[derive(Drop)]
+#[derive(Clone, Copy)]
 pub enum Fields {
     Fresh {
         first: Version,
@@ -47,14 +47,14 @@ pub enum Fields {
 }
 
 // A frame that is whole, with the length of its body and the number of its kind, or the refusal.
-#[derive(Drop)]
+#[derive(Clone, Copy)]
 pub enum Framing {
     Whole { length: u16, number: u16 },
     Refused(Refusal),
 }
 
 // A reading is either the record, by its fields, the place where its list begins and the bytes that it takes, or the refusal.
-#[derive(Drop)]
+#[derive(Clone, Copy)]
 pub enum Reading {
     Record {
         fields: Fields,

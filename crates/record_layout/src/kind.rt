@@ -9,7 +9,7 @@ use counters::OBJECTS;
 pub const BODY_LIMIT: usize = 6 + 5 * (OBJECTS as usize);
 
 // Commit and rollback are one kind of event, and what they write one kind of record, each with a flag.
-#[derive(Drop)]
+#[derive(Clone, Copy)]
 pub enum Kind {
     Fresh,
     Start,
@@ -21,7 +21,7 @@ pub enum Kind {
 
 // A row of the table: the kind's number, the bytes of a body in front of its list, the bytes of an item, and whether the
 // last byte of the head counts the items. Where it does not, there is an item for each object.
-#[derive(Drop)]
+#[derive(Clone, Copy)]
 pub struct Shape {
     pub number: u16,
     pub head: u8,
@@ -29,7 +29,7 @@ pub struct Shape {
     pub counted: bool,
 }
 
-#[derive(Drop)]
+#[derive(Clone, Copy)]
 pub enum KindFound {
     Known(Kind),
     Unknown,

@@ -1,3 +1,5 @@
 // The layout of the records: their kinds and their fields.
+#![tactic(auto)]
+
 pub mod fields;
 pub mod kind;

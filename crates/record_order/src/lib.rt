@@ -1,4 +1,6 @@
 // R34 to R36: which of two end records came first.
+#![tactic(auto)]
+
 ghost use Rattle.std.specs.Prelude.{◌≡◌};
 ghost use Rattle.counters.specs.Sizes.{base};
 ghost use Rattle.record_layout.specs.Entries.{entries_of};
@@ -9,7 +11,7 @@ use counters::{Comparison, Version};
 use record_layout::fields::{Fields, Reading};
 
 // R36: what two versions of one object say; R35: no object is listed by both; R34: one of the two is no end record.
-#[derive(Drop)]
+#[derive(Clone, Copy)]
 pub enum CameFirst {
     Compared(Comparison),
     Unrelated,

@@ -1,4 +1,6 @@
 // A call (R13) and a release (R15) in place: look, decide, store.
+#![tactic(auto)]
+
 ghost use Rattle.std.specs.Prelude.{◌<◌};
 ghost use Rattle.rules.specs.Steps.{call_step, release_step};
 ghost use Rattle.tables.specs.Places.{Fits};

@@ -1,4 +1,6 @@
 // Commit (R16) and rollback (R17) in place: look at every object, decide, write the record, and settle every object.
+#![tactic(auto)]
+
 ghost use Rattle.std.specs.Prelude.{◌*◌, ◌≤◌, ◌<◌, ◌≡◌};
 ghost use Rattle.leaf_end.specs.Serving.Ends.{end_cleared};
 ghost use Rattle.rules.specs.Steps.{end_step};

@@ -1,4 +1,6 @@
 // How tables and transactions begin, in place: fresh tables, and a start.
+#![tactic(auto)]
+
 ghost use Rattle.std.specs.Prelude.{◌<◌, ◌≡◌, length};
 ghost use Rattle.step_start.specs.Serving.Beginnings.{begin_object, begin_slot};
 ghost use Rattle.record_layout.specs.Declarations.{declarations_of};

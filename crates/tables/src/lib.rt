@@ -1,4 +1,6 @@
 // The tables of R4 in memory that is lent: three lists, of words, of bytes and of marks; a look and a store at each place.
+#![tactic(auto)]
+
 ghost use Rattle.std.specs.Prelude.{◌<◌, false, ◌≡◌, length, get_or};
 ghost use Rattle.rules.specs.Tables.{no_object, pair_at, with_object, with_live, with_pair};
 ghost use Rattle.tables.specs.Places.{words_long, marks_long, Fits};

@@ -53,7 +53,7 @@ fn begins(line: &[u8], word: &[u8]) -> bool {
 }
 
 // The numbers of a line modulo 2^32 and as bytes, zeros behind them, and how many have ended. A line has at most 136.
-#[derive(Drop)]
+#[derive(Clone, Copy)]
 pub struct Numbers {
     values: [u32; 136],
     pub bytes: [u8; 136],

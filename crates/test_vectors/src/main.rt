@@ -1,5 +1,7 @@
 // Test vectors of the records: a page of them is read from standard input, and for each the library's answer is
 // written on a line.
+#![tactic(auto)]
+
 mod ordering;
 mod page;
 mod reading;
