@@ -8,9 +8,7 @@ use lib.ListN.{take}
 use borrow.Author.Tests.{eqb-true, eqb-false}
 use Rattle.counters.specs.Sizes.{Size}
 use Rattle.record_layout.specs.declared.fields.Event.{Event}
-use Rattle.record_layout.specs.declared.fields.Event
 use Rattle.record_layout.specs.declared.fields.Fields.{Fields}
-use Rattle.record_layout.specs.declared.fields.Fields
 use Rattle.kinds.specs.Kinds.{acted}
 use Rattle.rules.specs.Tables.{State, object_at, live_at}
 use Rattle.rules.specs.Steps.{Stepping, call_step, release_step, end_step, event_step, fields_step}

@@ -15,7 +15,6 @@ use Rattle.answers.specs.declared.Refusal.TheVariants.{Wait}
 use Rattle.counters.specs.Sizes.{Size}
 use Rattle.counters.specs.Versions.{next}
 use Rattle.record_layout.specs.declared.fields.Event.{Event}
-use Rattle.record_layout.specs.declared.fields.Event
 use Rattle.record_layout.specs.Declarations.{Declaration, declarations_of}
 use Rattle.objects.specs.Places.{turn_of, says_wait}
 use Rattle.rules.specs.Tables.{State, object_at, live_at, pair_at}

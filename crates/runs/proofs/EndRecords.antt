@@ -1,6 +1,6 @@
 -- The record that an end writes: its length, its bytes, and that it reads back.
 use Prim.Native.Nat.{ℕ, ◌+◌, ◌*◌, ◌/◌, ◌%◌, ◌<◌, ◌≤◌}
-use mathlib.Core.Bool.{Bool, true, false, ◌&&◌}
+use mathlib.Core.Bool.{Bool, true, ◌&&◌}
 use mathlib.Core.List.{List, [], ◌∷◌, ◌++◌, append-nil}
 use mathlib.Core.Path.{◌≡◌, refl, sym, ap, subst, ◌∙◌}
 use native.Mathlib.Omega.{arith}
@@ -20,7 +20,6 @@ use Rattle.record_layout.specs.Writing.{readable}
 use Rattle.record_layout.specs.declared.kind.Kind.TheVariants.{Ended}
 use Rattle.record_layout.specs.declared.fields.Fields.{Fields}
 use Rattle.record_layout.specs.declared.fields.Reading.{Reading}
-use Rattle.record_layout.specs.declared.fields.Reading
 use Rattle.record_layout.proofs.LittleEndian.{word_again}
 use Rattle.record_layout.proofs.Lengths.{length_record, readable_beside}
 use Rattle.record_layout.proofs.ReadBack.{ReadsAs, written_reads_back}

@@ -15,7 +15,7 @@ use Rattle.counters.specs.declared.Version.{Version}
 use Rattle.objects.specs.Places.{no_pair, turn_of, says_released, settled, restores, spoiled_pair}
 use Rattle.objects.specs.declared.Pair.{Pair}
 use Rattle.rules.specs.Tables.{State, object_at, live_at, pair_at}
-use Rattle.runs.specs.Histories.{History, Transaction, Status, Committed, RolledBack, is_live, is_committed, lives_in, with_end, status_of}
+use Rattle.runs.specs.Histories.{History, Transaction, is_live, is_committed, lives_in, with_end, status_of}
 use Rattle.runs.specs.Companions.{count_live, declarers}
 use Rattle.runs.specs.Runs.{Within}
 use Rattle.answers.proofs.Tests.{both_true}

@@ -11,7 +11,6 @@ use Rattle.record_layout.specs.Declarations.{names}
 use Rattle.record_layout.specs.Entries.{Entry, entries_of}
 use Rattle.record_layout.specs.Reading.{reading, listing}
 use Rattle.record_layout.specs.declared.fields.Reading.{Reading}
-use Rattle.record_layout.specs.declared.fields.Reading
 use Rattle.objects.specs.Places.{no_pair, says_released, says_wait}
 use Rattle.objects.specs.declared.Object.{Object}
 use Rattle.objects.specs.declared.Pair.{Pair}

@@ -5,7 +5,6 @@ use Rattle.answers.specs.declared.Refusal.TheVariants.{Wait}
 use Rattle.counters.specs.Sizes.{Size}
 use Rattle.record_layout.specs.Kinds.{body_limit}
 use Rattle.record_layout.specs.declared.fields.Event.{Event}
-use Rattle.record_layout.specs.declared.fields.Event
 use Rattle.rules.specs.Tables.{State, live_at}
 use Rattle.rules.specs.Refusing.{doomed}
 use Rattle.rules.specs.Steps.{end_step, event_step}

@@ -4,9 +4,7 @@ use Rattle.answers.specs.Numbers.{Reply}
 use Rattle.answers.specs.Order.{pick}
 use Rattle.record_layout.specs.Declarations.{Declaration, declarations_of}
 use Rattle.record_layout.specs.declared.fields.Event.{Event}
-use Rattle.record_layout.specs.declared.fields.Event
 use Rattle.record_layout.specs.declared.fields.Fields.{Fields}
-use Rattle.record_layout.specs.declared.fields.Fields
 use Rattle.rules.specs.Events.{Handed}
 
 pub data Status : Type 0 where
