@@ -41,7 +41,9 @@ fn place(text: &[u8], buf: &mut [u8], at: usize) -> usize
     if buf.len() - at < text.len() {
         return 0;
     }
-    bytes::copy(text, &mut buf[at..])
+    let end = at + text.len();
+    buf[at..end].copy_from_slice(text);
+    text.len()
 }
 
 impl Line {
