@@ -1,11 +1,10 @@
 // A session is lines of text; the first word of a line says what it asks. Each line is written, and behind it the
 // answer, if there is one.
 use crate::asked::{RECORD, calls, event};
-use bytes::scan::find;
 use counters::Version;
 use machine::Tables;
 use test_tables::{given, looks};
-use test_text::scan::{after, number_at, place_of};
+use test_text::scan::{after, find, number_at, place_of};
 use test_text::show::words;
 
 // From tables of zeros, which also count as kept.
@@ -14,7 +13,7 @@ pub fn play(session: &[u8]) {
     let mut kept = tables;
     let mut at: usize = 0;
     while at < session.len() {
-        let end = find(session, at, session.len(), b'\n');
+        let end = find(session, at, b'\n');
         let line = &session[at..end];
         tables = turn(line, tables, kept);
         kept = keep(line, tables, kept);

@@ -1,15 +1,31 @@
 // What a line of text says: the words that it begins with, and the decimal numbers among its words, up to a remark
 // behind '#'.
-use bytes::scan::find;
+ghost use Rattle.std.specs.Prelude.{◌≡◌, ◌≢◌, ℕ, ◌<◌, ◌≤◌, length, slice_index};
+
+// The place of the first such sign that stands at `from` or behind it; the length of s where there is none.
+pub fn find(s: &[u8], from: usize, sign: u8) -> usize
+    requires { from ≤ length s.now }
+    ensures behind { from ≤ result }
+    ensures within { result ≤ length s.now }
+    ensures before { (k : ℕ) → from ≤ k → k < result → slice_index s.now k ≢ sign }
+    ensures found { result < length s.now → slice_index s.now result ≡ sign }
+{
+    for at in from..s.len() {
+        if s[at] == sign {
+            return at;
+        }
+    }
+    s.len()
+}
 
 // What stands before the first such sign, and what stands behind it.
 pub fn before(s: &[u8], sign: u8) -> &[u8] {
-    let at = find(s, 0, s.len(), sign);
+    let at = find(s, 0, sign);
     &s[0..at]
 }
 
 pub fn after(s: &[u8], sign: u8) -> &[u8] {
-    let at = find(s, 0, s.len(), sign);
+    let at = find(s, 0, sign);
     rest(&s[at..])
 }
 
@@ -28,7 +44,7 @@ pub fn place_of(line: &[u8], words: &[u8]) -> u32 {
     let mut place: u32 = 0;
     let mut at: usize = 0;
     while at < words.len() {
-        let end = find(words, at, words.len(), b',');
+        let end = find(words, at, b',');
         if begins(line, &words[at..end]) {
             return place;
         }
@@ -68,7 +84,7 @@ pub fn numbers_of(line: &[u8]) -> Numbers {
         count: 0,
         inside: false,
     };
-    let end = find(line, 0, line.len(), b'#');
+    let end = find(line, 0, b'#');
     let mut at: usize = 0;
     while at < end {
         numbers = numbers.next(line[at]);
