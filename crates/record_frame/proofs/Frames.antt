@@ -12,9 +12,7 @@ use Rattle.record_layout.proofs.Checks.{frame_fits}
 use Rattle.record_layout.specs.Kinds.{kind_of}
 use Rattle.record_layout.specs.Reading.{length_field, kind_field, frame_rules, framing, body, body_place, reading, reading_of}
 use Rattle.record_layout.specs.declared.fields.Framing.{Framing}
-use Rattle.record_layout.specs.declared.fields.Framing
 use Rattle.record_layout.specs.declared.fields.Reading.{Reading}
-use Rattle.record_layout.specs.declared.fields.Reading
 
 pub record IsWhole (z : Size) (s : List ℕ) (length_told number : ℕ) : Type 0 where
   pub is_there : 4 + length_told ≤ length s
