@@ -14,7 +14,6 @@ use Rattle.record_layout.specs.Reading.{kind_field, frame_rules, body_rules, bod
 use Rattle.record_layout.specs.declared.kind.KindFound.{KindFound}
 use Rattle.record_layout.specs.declared.kind.KindFound.TheVariants.{Known, Unknown}
 use Rattle.record_layout.specs.declared.fields.Reading.{Reading}
-use Rattle.record_layout.specs.declared.fields.Reading
 
 abbrev OnlyBad : Reading → Type 0
 OnlyBad (Reading.Record fields list taken) = Unit {0}
