@@ -1,0 +1,47 @@
+-- `step_call::call` meets its promise.
+use Rattle.std.proofs.Common.{sym, ap, ◌∙◌}
+use Rattle.answers.specs.Numbers.{accepted}
+use Rattle.rules.specs.Tables.{State, with_pair}
+use Rattle.tables.specs.Views.{view}
+use Rattle.step_call.proofs.Looked.{LookedAtPair, call_refused, call_passed}
+use Rattle.step_call.proofs.call.Goals as goal
+
+pub returns-in-Refuses : goal.returns-in-Refuses
+returns-in-Refuses c =
+    let a = c.args in
+    let looked : LookedAtPair a.size (view a.size a.words.now a.bytes.now a.marks.now) a.slot.0 a.number.0 c.keep_in_range-s.result c.keep_in_range-o.result
+    c.live_at-live.result c.pair_at-pair.result c.object_at-object.result =
+    record {
+      right_slot = c.keep_in_range-s.ensures.1;
+      right_object = c.keep_in_range-o.ensures.1;
+      is_live = c.live_at-live.ensures;
+      is_pair = c.pair_at-pair.ensures;
+      is_object = c.object_at-object.ensures;
+    } in (
+      c.requires.0,
+      call_refused looked a.kind a.argument c.doomed-doomed.result (c.doomed-doomed.ensures a.words.now a.bytes.now)
+          c.in-Refuses.refusal (sym c.in-Refuses.ensures),
+    )
+
+pub returns-in-Passes : goal.returns-in-Passes
+returns-in-Passes c =
+    let a = c.args in
+    let s = c.keep_in_range-s.result in
+    let o = c.keep_in_range-o.result in
+    let looked : LookedAtPair a.size (view a.size a.words.now a.bytes.now a.marks.now) a.slot.0 a.number.0 s o
+    c.live_at-live.result c.pair_at-pair.result c.object_at-object.result =
+    record {
+      right_slot = c.keep_in_range-s.ensures.1;
+      right_object = c.keep_in_range-o.ensures.1;
+      is_live = c.live_at-live.ensures;
+      is_pair = c.pair_at-pair.ensures;
+      is_object = c.object_at-object.ensures;
+    } in (
+      c.store_pair.ensures.0,
+      (λ i. record { tables = c.store_pair.ensures.1 i; reply = accepted c.act-acted.result.answer })
+          ∙ ap (λ (u : State). record { tables = with_pair a.size u s o c.pair.result; reply = accepted c.act-acted.result.answer })
+          (c.store_object.ensures.1 a.bytes.now a.marks.now)
+          ∙ call_passed looked a.kind a.argument c.doomed-doomed.result (c.doomed-doomed.ensures a.words.now a.bytes.now)
+          (sym c.in-Passes.ensures)
+          c.act-acted.result c.object.result c.pair.result c.act-acted.ensures c.object.ensures c.pair.ensures,
+    )

@@ -1,0 +1,33 @@
+-- `step_start::start` meets its promise.
+use Rattle.leaf_start.proofs.StartLoops.{Judged, start_refused, list_within, start_passed}
+use Rattle.tables.specs.Views.{view}
+use Rattle.step_start.proofs.start.Goals as goal
+
+pub declare_all-requires : goal.declare_all-requires
+declare_all-requires c =
+    let a = c.args in
+    let judged : Judged a.size (view a.size a.words.now a.bytes.now a.marks.now) a.slot.0 c.keep_in_range-s.result a.list.now c.live_at.result c.verdict.result =
+    record { right_slot = c.keep_in_range-s.ensures.1; is_live = c.live_at.ensures; is_verdict = c.verdict.ensures } in
+    (c.clear.ensures.0, c.keep_in_range-s.ensures.0, list_within judged c.in-Passes.is)
+
+pub returns-in-Refuses : goal.returns-in-Refuses
+returns-in-Refuses c =
+    let a = c.args in
+    let judged : Judged a.size (view a.size a.words.now a.bytes.now a.marks.now) a.slot.0 c.keep_in_range-s.result a.list.now c.live_at.result c.verdict.result =
+    record { right_slot = c.keep_in_range-s.ensures.1; is_live = c.live_at.ensures; is_verdict = c.verdict.ensures } in
+    (c.requires.0, start_refused judged c.in-Refuses.is)
+
+pub returns-in-Passes : goal.returns-in-Passes
+returns-in-Passes c =
+    let a = c.args in
+    let size = a.size in
+    let judged : Judged size (view size a.words.now a.bytes.now a.marks.now) a.slot.0 c.keep_in_range-s.result a.list.now c.live_at.result c.verdict.result =
+    record { right_slot = c.keep_in_range-s.ensures.1; is_live = c.live_at.ensures; is_verdict = c.verdict.ensures } in
+    let fits = c.declare_all.ensures.0 in
+    let w = c.declare_all.new.words in
+    let b = c.declare_all.new.bytes in (
+      (fits.0, fits.1, c.store_live.ensures.0),
+      start_passed judged c.in-Passes.is (view size c.clear.new.words c.clear.new.bytes c.clear.new.marks)
+          (view size w b c.declare_all.new.marks) (view size w b c.store_live.new.marks)
+          c.clear.ensures.1 c.declare_all.ensures.1 (c.store_live.ensures.1 w b),
+    )
