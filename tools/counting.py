@@ -13,7 +13,8 @@ PART = {".rt": re.compile(r'^ *(?:pub )?(?:extern "C" )?(?:fn|const) (\w+)', re.
 def uses():
     """What each crate of crates.txt uses, in its order."""
     lines = (line.split("#")[0].partition(":") for line in (ROOT / "crates.txt").read_text().splitlines())
-    return {name.strip(): used.split() for name, _, used in lines if name.strip()}
+    # Behind a name may stand what the crate is made into, as `staticlib`.
+    return {words.split()[0]: used.split() for words, _, used in lines if words.strip()}
 
 
 def listed():
