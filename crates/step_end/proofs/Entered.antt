@@ -13,7 +13,6 @@ use Rattle.counters.specs.Sizes.{Size}
 use Rattle.record_front.proofs.Splicing.{put_behind}
 use Rattle.objects.specs.declared.Pair.{Pair}
 use Rattle.rules.specs.Tables.{State, pair_at}
-use Rattle.rules.specs.Walks.{join_below}
 use Rattle.rules.specs.Effects.{entry_of}
 use Rattle.rules.proofs.Walking.{join_zero, join_next, join_suc}
 use Rattle.leaf_end.proofs.Standings.{entries_to, entry_few}

@@ -34,7 +34,7 @@ pub fn record(
         },
         list,
     );
-    bytes::copy(&front[..10], buf);
+    buf[..10].copy_from_slice(&front[..10]);
     entries(words, bytes, marks, size, s, &mut buf[10..]);
 }
 
