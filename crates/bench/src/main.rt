@@ -5,10 +5,14 @@
 mod input;
 mod output;
 
+use std::io::{Eprint, Error};
+use std::process::ExitCode;
+
 // The language asks every loop to end; at a turn a nanosecond this one takes 584 years.
 const TURNS: u64 = 18446744073709551615;
 
-fn main() {
+fn main(rt: HostRuntime) -> ExitCode {
+    let mut stdin = rt.stdin();
     let mut bytes = io::large_buffer();
     let mut lines = io::large_buffer();
     let mut bench = bench_play::at_first();
@@ -21,22 +25,27 @@ fn main() {
         let behind = turned.bench;
         bench = behind;
         hand = turned.kept;
-        if !output::write(&lines, turned.used) {
-            os::fail(b"bench: output");
-            return;
+        if let Err(error) = output::write(&rt, &lines, turned.used) {
+            return failed(&rt, "output", error);
         }
         if bench.stopped {
-            return;
+            return ExitCode::SUCCESS;
         }
         if !turned.waits {
             continue;
         }
-        let read = input::more(&mut bytes, hand);
-        if read.failed {
-            os::fail(b"bench: input");
-            return;
+        let read = input::more(&mut stdin, &mut bytes, hand);
+        if let Some(error) = read.failed {
+            return failed(&rt, "input", error);
         }
         hand = read.hand;
         ended = read.ended;
     }
+    ExitCode::SUCCESS
+}
+
+// Says which call has failed and why, as far as there is a standard error to say it on.
+fn failed(rt: &impl Eprint, call: &str, error: Error) -> ExitCode {
+    let _ = eprintln!(rt; "bench: {call}: {error}");
+    ExitCode::FAILURE
 }

@@ -1,11 +1,11 @@
 // Standard output.
 ghost use Rattle.std.specs.Prelude.{◌≤◌, length};
 
-use libc::STDOUT_FILENO;
+use std::io::{Print, Result};
 
-// The lines in front of the buffer; whether all of them were taken.
-pub fn write(lines: &[u8], used: usize) -> bool
+// The lines in front of the buffer, all of them, or why they were not taken.
+pub fn write(to: &impl Print, lines: &[u8], used: usize) -> Result<()>
     requires { used ≤ length lines.now }
 {
-    io::write_all(STDOUT_FILENO, &lines[..used])
+    to.write_all(&lines[..used])
 }
