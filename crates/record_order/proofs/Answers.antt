@@ -8,7 +8,6 @@ use Rattle.answers.proofs.Tells.{answer_of, answer_back}
 use Rattle.answers.specs.Numbers.{Reply}
 use Rattle.answers.specs.Order.{decide}
 use Rattle.answers.specs.declared.Answer.{Answer}
-use Rattle.answers.specs.declared.Answer
 use Rattle.answers.specs.declared.Refusal.TheVariants.{BadRecord}
 use Rattle.counters.specs.Sizes.{Size}
 use Rattle.counters.specs.Comparing.{compared}

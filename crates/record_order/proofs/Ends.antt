@@ -12,9 +12,7 @@ use Rattle.record_layout.specs.Bytes.{byte_at, AreBytes}
 use Rattle.record_layout.specs.Entries.{entries_of, rising_from}
 use Rattle.record_layout.specs.Reading.{end_right, body, reading, list_in, listing}
 use Rattle.record_layout.specs.declared.fields.Fields.{Fields}
-use Rattle.record_layout.specs.declared.fields.Fields
 use Rattle.record_layout.specs.declared.fields.Reading.{Reading}
-use Rattle.record_layout.specs.declared.fields.Reading
 use Rattle.record_layout.proofs.Fronts.{bytes_drop, bytes_take}
 use Rattle.answers.proofs.Tests.{both_true}
 use Rattle.record_layout.proofs.WriteBack.{record_read_lem, list_behind}

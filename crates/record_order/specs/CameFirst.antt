@@ -10,9 +10,7 @@ use Rattle.counters.specs.declared.Comparison.TheVariants.{A, B, Same, Far}
 use Rattle.record_layout.specs.Entries.{Entry, entries_of}
 use Rattle.record_layout.specs.Reading.{reading, listing}
 use Rattle.record_layout.specs.declared.fields.Fields.{Fields}
-use Rattle.record_layout.specs.declared.fields.Fields
 use Rattle.record_layout.specs.declared.fields.Reading.{Reading}
-use Rattle.record_layout.specs.declared.fields.Reading
 use Rattle.record_order.specs.declared.CameFirst.{CameFirst}
 use Rattle.record_order.specs.declared.CameFirst.TheVariants.{Compared, Unrelated, Refused}
 
