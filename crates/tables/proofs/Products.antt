@@ -3,7 +3,6 @@ use Prim.Native.Nat.{ℕ, ◌+◌, ◌*◌, ◌≤◌, ◌<◌}
 use mathlib.Core.Path.{◌≡◌}
 use native.Mathlib.Nat.{mul-le-mul_right}
 use native.Mathlib.Omega.{arith}
-use Rattle.rules.proofs.Stores.{place_inside}
 
 pub pairs_few : (slots objects : ℕ) → slots ≤ 255 → objects ≤ 255 → slots * objects ≤ 65025
 pairs_few slots objects few small = omega (arith, mul-le-mul_right objects few)

@@ -1,6 +1,6 @@
 -- A list that is made of a function: what stands at a place, and what a store there is.
 use Prim.Native.Nat.{ℕ, zero, suc, ◌<◌}
-use mathlib.Core.List.{List, [], ◌∷◌}
+use mathlib.Core.List.{List, ◌∷◌}
 use mathlib.Core.Path.{◌≡◌, refl, sym, ap, ◌∙◌}
 use native.Mathlib.Omega.{arith}
 use lib.ListN.{length, get_or, set}

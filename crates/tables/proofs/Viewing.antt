@@ -10,9 +10,9 @@ use Rattle.counters.specs.Sizes.{Size}
 use Rattle.objects.specs.Places.{no_pair}
 use Rattle.objects.specs.declared.Object.{Object}
 use Rattle.objects.specs.declared.Pair.{Pair}
-use Rattle.rules.specs.Tables.{State, no_object, object_at, live_at, pair_at, with_object, with_live, with_pair}
+use Rattle.rules.specs.Tables.{no_object, object_at, live_at, pair_at, with_object, with_live, with_pair}
 use Rattle.rules.proofs.Stores.{Sized, place_inside}
-use Rattle.tables.specs.Places.{object_place, private_place, supremum_place, declared_place, called_place, spoiled_place, words_long, bytes_long, marks_long, Fits}
+use Rattle.tables.specs.Places.{object_place, private_place, supremum_place, declared_place, called_place, spoiled_place, words_long, marks_long, Fits}
 use Rattle.tables.specs.Views.{tabulate, cell, mark, object_from, pair_from, view}
 use Rattle.tables.specs.Serving.Changes.{Become}
 use Rattle.tables.proofs.Tabulated.{tab_get, tab_length, tab_alike, tab_stored}
