@@ -12,7 +12,8 @@ use Rattle.record_layout.specs.declared.kind.KindFound.{KindFound}
 use Rattle.record_read.proofs.read.Goals as goal
 
 -- the whole frame that was told
-told_whole : (s : List ℕ) (length number : ℕ) → told_by_framing (Framing.Whole length number) ≡ told_by_framing (framing base s) → IsWhole base s length number
+told_whole : (s : List ℕ) (length number : ℕ) → told_by_framing (Framing.Whole length number) ≡ told_by_framing (framing base s)
+    → IsWhole base s length number
 told_whole s length number told = whole base s length number (sym (framing_tells _ _ told))
 
 -- the reading is that of the kind which was found
