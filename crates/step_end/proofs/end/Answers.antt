@@ -1,23 +1,35 @@
 use Rattle.std.proofs.Common.{◌+◌, refl, sym, ◌∙◌, ltb, length}
 use Rattle.answers.specs.Numbers.{accepted}
 use Rattle.tables.specs.Views.{view}
-use Rattle.step_end.proofs.Ended.{LookedAtSlot, end_passed}
+use Rattle.step_end.proofs.Ended.{LookedAtSlot, end_refused, end_passed}
 use Rattle.step_end.proofs.end.Goals as goal
 
-pub returns-in-Passes : goal.returns-in-Passes
-returns-in-Passes c =
+pub returns-in-Refuses : goal.returns-in-Refuses
+returns-in-Refuses c =
     let a = c.args in
-    let fits = c.settle.ensures.0 in
-    let bytes = c.look-standing.result.bytes in
-    let found = view a.size a.words.now a.bytes.now a.marks.now in
-    let looked : LookedAtSlot a.size found a.slot.0 c.keep_in_range-s.result a.buf.now c.live_at-live.result c.look-standing.result (ltb (length a.buf.now) (10 + bytes)) =
+    let standing = c.look-standing.result in
+    let looked : LookedAtSlot a.size (view a.size a.words.now a.bytes.now a.marks.now) a.slot.0 c.keep_in_range-s.result a.buf.now c.live_at-live.result standing (ltb (length a.buf.now) (10 + standing.bytes)) =
     record {
       right_slot = c.keep_in_range-s.ensures.1;
       is_live = c.live_at-live.ensures;
       is_standing = c.look-standing.ensures.0;
       is_short = refl;
-    } in (
+    } in
+    (c.requires.0, end_refused looked a.rollback a.tick c.in-Refuses.refusal (sym c.verdict.ensures ∙ c.in-Refuses.is))
+
+pub returns-in-Passes : goal.returns-in-Passes
+returns-in-Passes c =
+    let a = c.args in
+    let standing = c.look-standing.result in
+    let looked : LookedAtSlot a.size (view a.size a.words.now a.bytes.now a.marks.now) a.slot.0 c.keep_in_range-s.result a.buf.now c.live_at-live.result standing (ltb (length a.buf.now) (10 + standing.bytes)) =
+    record {
+      right_slot = c.keep_in_range-s.ensures.1;
+      is_live = c.live_at-live.ensures;
+      is_standing = c.look-standing.ensures.0;
+      is_short = refl;
+    } in
+    let fits = c.settle.ensures.0 in (
       (fits.0, fits.1, c.store_live.ensures.0),
-      (λ i. record { tables = c.store_live.ensures.1 c.settle.new.words c.settle.new.bytes i; reply = accepted (10 + bytes); buffer = c.record.new.buf })
+      (λ i. record { tables = c.store_live.ensures.1 c.settle.new.words c.settle.new.bytes i; reply = accepted (10 + standing.bytes); buffer = c.record.new.buf })
           ∙ end_passed looked a.rollback a.tick (sym c.verdict.ensures ∙ c.in-Passes.is) _ _ c.settle.ensures.1 c.record.ensures,
     )
