@@ -34,6 +34,7 @@ fn put(fields: Fields, list: &[u8], buf: &mut [u8])
 {
     let front = record_front::front(fields, list.len() as u16);
     let length = 4 + fields.shape().head as usize;
-    bytes::copy(&front[..length], buf);
-    bytes::copy(list, &mut buf[length..]);
+    let end = length + list.len();
+    buf[..length].copy_from_slice(&front[..length]);
+    buf[length..end].copy_from_slice(list);
 }
