@@ -9,11 +9,13 @@ returns-then-size-object c =
 
 pub returns-then-object-least : goal.returns-then-object-least
 returns-then-object-least c =
-    sym (c.loop-at.invariant.1 ∙ not_above Refuses Passes c.args.size c.loop-at.least c.args.list.now c.loop-at.at (search rules) c.if-size-object.false c.if-object-least.true)
+    sym (c.loop-at.invariant.1
+    ∙ not_above Refuses Passes c.args.size c.loop-at.least c.args.list.now c.loop-at.at (search rules) c.if-size-object.false c.if-object-least.true)
 
 pub loop-at-preserved : goal.loop-at-preserved
 loop-at-preserved c =
-    (search rules, c.loop-at.invariant.1 ∙ rises_on Refuses Passes c.args.size c.loop-at.least c.args.list.now c.loop-at.at (search rules) c.if-size-object.false c.if-object-least.false)
+    let more = rises_on Refuses Passes c.args.size c.loop-at.least c.args.list.now c.loop-at.at (search rules) c.if-size-object.false c.if-object-least.false in
+    (search rules, c.loop-at.invariant.1 ∙ more)
 
 pub returns : goal.returns
 returns c =

@@ -8,7 +8,9 @@ pub returns-in-Refuses : goal.returns-in-Refuses
 returns-in-Refuses c =
     let a = c.args in
     let standing = c.look-standing.result in
-    let looked : LookedAtSlot a.size (view a.size a.words.now a.bytes.now a.marks.now) a.slot.0 c.keep_in_range-s.result a.buf.now c.live_at-live.result standing (ltb (length a.buf.now) (10 + standing.bytes)) =
+    let found = view a.size a.words.now a.bytes.now a.marks.now in
+    let short = ltb (length a.buf.now) (10 + standing.bytes) in
+    let looked : LookedAtSlot a.size found a.slot.0 c.keep_in_range-s.result a.buf.now c.live_at-live.result standing short =
     record {
       right_slot = c.keep_in_range-s.ensures.1;
       is_live = c.live_at-live.ensures;
@@ -21,7 +23,9 @@ pub returns-in-Passes : goal.returns-in-Passes
 returns-in-Passes c =
     let a = c.args in
     let standing = c.look-standing.result in
-    let looked : LookedAtSlot a.size (view a.size a.words.now a.bytes.now a.marks.now) a.slot.0 c.keep_in_range-s.result a.buf.now c.live_at-live.result standing (ltb (length a.buf.now) (10 + standing.bytes)) =
+    let found = view a.size a.words.now a.bytes.now a.marks.now in
+    let short = ltb (length a.buf.now) (10 + standing.bytes) in
+    let looked : LookedAtSlot a.size found a.slot.0 c.keep_in_range-s.result a.buf.now c.live_at-live.result standing short =
     record {
       right_slot = c.keep_in_range-s.ensures.1;
       is_live = c.live_at-live.ensures;
