@@ -1,21 +1,20 @@
 -- An end, object by object: the object stored and the others spoiled are one turn of the rules.
-use Prim.Native.Nat.{ℕ, ◌+◌, ◌≤◌, ◌<◌}
-use mathlib.Core.Bool.{Bool, true, false, ◌&&◌}
+use Prim.Native.Nat.{ℕ, ◌<◌}
+use mathlib.Core.Bool.{Bool, true, false}
 use mathlib.Core.Path.{◌≡◌, refl, sym, ap, ◌∙◌}
-use native.Mathlib.Omega.{arith}
 use lib.Seq.{set-set}
 use borrow.Author.Tests.{eq-eqb}
 use Rattle.answers.proofs.Tests.{both_true}
 use Rattle.answers.specs.Order.{pick}
 use Rattle.counters.specs.Sizes.{Size}
-use Rattle.objects.specs.Places.{no_pair, settled, restores, restored}
+use Rattle.objects.specs.Places.{settled, restores, restored}
 use Rattle.objects.specs.declared.Object.{Object}
 use Rattle.objects.specs.declared.Pair.{Pair}
-use Rattle.rules.specs.Tables.{State, object_at, pair_at, with_object, with_pair}
+use Rattle.rules.specs.Tables.{State, object_at, pair_at, with_object}
 use Rattle.rules.specs.Walks.{each_below}
 use Rattle.rules.specs.Effects.{spoil_one, spoil_others, restore_one, end_one, end_turn}
-use Rattle.rules.proofs.Stores.{Sized, sized_object, sized_pair, object_kept}
-use Rattle.rules.proofs.Walking.{each_zero, each_next}
+use Rattle.rules.proofs.Stores.{Sized, object_kept}
+use Rattle.rules.proofs.Walking.{each_zero}
 use Rattle.rules.proofs.Restored.{restore_keeps, restore_object}
 use Rattle.leaf_end.specs.Serving.Ends.{ended_object, slots_asked}
 use Rattle.leaf_end.proofs.Spoils.{spoils_beside}

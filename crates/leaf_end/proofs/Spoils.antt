@@ -1,7 +1,7 @@
 -- Spoiling the others that have called an object, beside stores elsewhere.
-use Prim.Native.Nat.{ℕ, zero, suc, ◌+◌, ◌≤◌, ◌<◌}
+use Prim.Native.Nat.{ℕ, zero, suc}
 use mathlib.Core.Bool.{Bool, true, false, not, ◌&&◌}
-use mathlib.Core.Path.{◌≡◌, refl, sym, ap, ◌∙◌}
+use mathlib.Core.Path.{◌≡◌, refl, ap, ◌∙◌}
 use lib.Dec.{eqb}
 use Rattle.counters.specs.Sizes.{Size}
 use Rattle.objects.specs.declared.Object.{Object}

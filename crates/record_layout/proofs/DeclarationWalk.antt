@@ -8,7 +8,7 @@ use native.Mathlib.Omega.{arith}
 use lib.ListN.{length, drop, length-drop}
 use lib.Seq.{get_or-drop, drop-drop}
 use Rattle.record_layout.specs.Bytes.{byte_at}
-use Rattle.record_layout.specs.Declarations.{Declaration, declarations_of}
+use Rattle.record_layout.specs.Declarations.{declarations_of}
 
 declarations_front : (l : List ℕ) → 1 < length l → declarations_of l ≡ record { object = byte_at l 0; supremum = byte_at l 1 } ∷ declarations_of (drop 2 l)
 declarations_front (object ∷ supremum ∷ rest) h = refl

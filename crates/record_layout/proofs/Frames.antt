@@ -12,7 +12,6 @@ use Rattle.record_layout.specs.Bytes.{half_bytes}
 use Rattle.record_layout.specs.Kinds.{kind_of, body_limit}
 use Rattle.record_layout.specs.Reading.{length_field, kind_field, frame_rules, body, reading_of, reading}
 use Rattle.record_layout.specs.declared.fields.Reading.{Reading}
-use Rattle.record_layout.specs.declared.fields.Reading
 use Rattle.record_layout.proofs.LittleEndian.{half_back}
 
 -- R24: the length of the body, the kind, and what stands behind them

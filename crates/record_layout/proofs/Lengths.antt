@@ -18,9 +18,7 @@ use Rattle.record_layout.specs.declared.kind.Kind.{Kind}
 use Rattle.record_layout.specs.declared.kind.Kind.TheVariants.{Fresh, Start, Call, Release, End, Ended}
 use Rattle.record_layout.specs.declared.kind.Shape.{Shape}
 use Rattle.record_layout.specs.declared.fields.Event.{Event}
-use Rattle.record_layout.specs.declared.fields.Event
 use Rattle.record_layout.specs.declared.fields.Fields.{Fields}
-use Rattle.record_layout.specs.declared.fields.Fields
 
 -- a head has the bytes that the table of kinds says
 pub length_head : (f : Fields) (bytes : ℕ) → length (head_of f bytes) ≡ (shape_of (kind_of_fields f)).head

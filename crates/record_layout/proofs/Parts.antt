@@ -1,7 +1,7 @@
 -- A promise of a part fixes all of it that a program can see.
 use Prim.Native.Nat.{ℕ}
 use mathlib.Core.List.{List}
-use mathlib.Core.Path.{◌≡◌, sym, ap, ◌∙◌}
+use mathlib.Core.Path.{◌≡◌, sym, ◌∙◌}
 use denote.Ref.{Bor}
 use lib.ListN.{length}
 use Rattle.record_layout.specs.Bytes.{IsPart}

@@ -20,11 +20,8 @@ use Rattle.record_layout.specs.declared.kind.Kind.TheVariants.{Fresh, Start, Cal
 use Rattle.record_layout.specs.declared.kind.KindFound.{KindFound}
 use Rattle.record_layout.specs.declared.kind.KindFound.TheVariants.{Known}
 use Rattle.record_layout.specs.declared.fields.Event.{Event}
-use Rattle.record_layout.specs.declared.fields.Event
 use Rattle.record_layout.specs.declared.fields.Fields.{Fields}
-use Rattle.record_layout.specs.declared.fields.Fields
 use Rattle.record_layout.specs.declared.fields.Reading.{Reading}
-use Rattle.record_layout.specs.declared.fields.Reading
 use Rattle.record_layout.proofs.Checks.{BodyFits, fits_body}
 use Rattle.record_layout.proofs.LittleEndian.{word_back}
 use Rattle.record_layout.proofs.Lengths.{length_front, length_body, length_record}

@@ -14,13 +14,9 @@ use Rattle.record_layout.specs.declared.kind.Kind.TheVariants.{Fresh, Start, Cal
 use Rattle.record_layout.specs.declared.kind.KindFound.{KindFound}
 use Rattle.record_layout.specs.declared.kind.KindFound.TheVariants.{Known, Unknown}
 use Rattle.record_layout.specs.declared.fields.Event.{Event}
-use Rattle.record_layout.specs.declared.fields.Event
 use Rattle.record_layout.specs.declared.fields.Fields.{Fields}
-use Rattle.record_layout.specs.declared.fields.Fields
 use Rattle.record_layout.specs.declared.fields.Framing.{Framing}
-use Rattle.record_layout.specs.declared.fields.Framing
 use Rattle.record_layout.specs.declared.fields.Reading.{Reading}
-use Rattle.record_layout.specs.declared.fields.Reading
 
 abbrev at : List ℕ → ℕ → ℕ
 at values place = get_or values place 0

@@ -23,7 +23,6 @@ use Rattle.record_layout.specs.declared.kind.KindFound.{KindFound}
 use Rattle.record_layout.specs.declared.kind.KindFound.TheVariants.{Known, Unknown}
 use Rattle.record_layout.specs.declared.fields.Fields.{Fields}
 use Rattle.record_layout.specs.declared.fields.Reading.{Reading}
-use Rattle.record_layout.specs.declared.fields.Reading
 use Rattle.record_layout.proofs.Checks.{FrameFits, frame_fits, BodyFits, body_fits}
 use Rattle.record_layout.proofs.Fronts.{by_front, bytes_drop, bytes_take, half_front, word_front, behind_front}
 use Rattle.record_layout.proofs.Lengths.{length_body, length_record}

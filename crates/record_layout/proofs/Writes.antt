@@ -21,7 +21,6 @@ use Rattle.record_layout.specs.Reading.{reading, listing}
 use Rattle.record_layout.specs.Writing.{Written, readable, writing_rules, writing}
 use Rattle.record_layout.specs.declared.fields.Fields.{Fields}
 use Rattle.record_layout.specs.declared.fields.Reading.{Reading}
-use Rattle.record_layout.specs.declared.fields.Reading
 use Rattle.record_layout.proofs.ReadBack.{ReadsAs, written_reads_back}
 use Rattle.record_layout.proofs.WriteBack.{read_is_written}
 

@@ -5,9 +5,7 @@ use Rattle.record_layout.specs.Kinds.{shape_of}
 use Rattle.record_layout.specs.declared.kind.Kind.{Kind}
 use Rattle.record_layout.specs.declared.kind.Kind.TheVariants.{Fresh, Start, Call, Release, End, Ended}
 use Rattle.record_layout.specs.declared.fields.Event.{Event}
-use Rattle.record_layout.specs.declared.fields.Event
 use Rattle.record_layout.specs.declared.fields.Fields.{Fields}
-use Rattle.record_layout.specs.declared.fields.Fields
 
 -- what a body says, the list aside
 abbrev pub fields_of : Kind → List ℕ → Fields

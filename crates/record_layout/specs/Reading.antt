@@ -13,9 +13,7 @@ use Rattle.record_layout.specs.declared.kind.Kind.TheVariants.{Fresh, Start, Cal
 use Rattle.record_layout.specs.declared.kind.KindFound.{KindFound}
 use Rattle.record_layout.specs.declared.kind.KindFound.TheVariants.{Known, Unknown}
 use Rattle.record_layout.specs.declared.fields.Framing.{Framing}
-use Rattle.record_layout.specs.declared.fields.Framing
 use Rattle.record_layout.specs.declared.fields.Reading.{Reading}
-use Rattle.record_layout.specs.declared.fields.Reading
 
 abbrev pub length_field : List ℕ → ℕ
 length_field s = half_of s

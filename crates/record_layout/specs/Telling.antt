@@ -4,13 +4,9 @@ use Rattle.answers.specs.Numbers.{number_of}
 use Rattle.record_layout.specs.Kinds.{shape_of}
 use Rattle.record_layout.specs.Fields.{kind_of_fields}
 use Rattle.record_layout.specs.declared.fields.Event.{Event}
-use Rattle.record_layout.specs.declared.fields.Event
 use Rattle.record_layout.specs.declared.fields.Fields.{Fields}
-use Rattle.record_layout.specs.declared.fields.Fields
 use Rattle.record_layout.specs.declared.fields.Framing.{Framing}
-use Rattle.record_layout.specs.declared.fields.Framing
 use Rattle.record_layout.specs.declared.fields.Reading.{Reading}
-use Rattle.record_layout.specs.declared.fields.Reading
 
 -- R20: the number is 0 where nothing refuses; beside a refusal's there are no values
 pub record Told : Type 0 where

@@ -1,6 +1,6 @@
 -- R11: a refusal has value 0, and leaves the tables and the buffer as they came.
 use Prim.Native.Nat.{ℕ}
-use mathlib.Core.Bool.{Bool, true, false}
+use mathlib.Core.Bool.{Bool}
 use mathlib.Core.List.{List}
 use mathlib.Core.Logic.{◌⊎◌, inl, inr, ◌≢◌}
 use mathlib.Core.Path.{◌≡◌, refl, ap, ◌∙◌}
@@ -11,11 +11,8 @@ use Rattle.answers.proofs.Deciding.{Accepts, OneHolds, decided}
 use Rattle.counters.specs.Sizes.{Size}
 use Rattle.record_layout.specs.Reading.{reading, listing}
 use Rattle.record_layout.specs.declared.fields.Event.{Event}
-use Rattle.record_layout.specs.declared.fields.Event
 use Rattle.record_layout.specs.declared.fields.Fields.{Fields}
-use Rattle.record_layout.specs.declared.fields.Fields
 use Rattle.record_layout.specs.declared.fields.Reading.{Reading}
-use Rattle.record_layout.specs.declared.fields.Reading
 use Rattle.rules.specs.Tables.{State}
 use Rattle.rules.specs.Steps.{unchanged, Stepping, Outcome, beside, start_step, call_step, release_step, end_step, event_step, fields_step, read_step, record_step}
 use Rattle.rules.proofs.RulesOf.{rules_of_start, started, rules_of_call, called, rules_of_release, released, rules_of_end, ended}

@@ -9,11 +9,8 @@ use borrow.Author.Tests.{eqb-true, eqb-false}
 use Rattle.counters.specs.Sizes.{Size}
 use Rattle.record_layout.specs.Reading.{reading, listing}
 use Rattle.record_layout.specs.declared.fields.Event.{Event}
-use Rattle.record_layout.specs.declared.fields.Event
 use Rattle.record_layout.specs.declared.fields.Fields.{Fields}
-use Rattle.record_layout.specs.declared.fields.Fields
 use Rattle.record_layout.specs.declared.fields.Reading.{Reading}
-use Rattle.record_layout.specs.declared.fields.Reading
 use Rattle.rules.specs.Tables.{State}
 use Rattle.rules.specs.Steps.{start_step, call_step, release_step, end_step, event_step, fields_step, read_step, record_step}
 use Rattle.rules.proofs.Stores.{Sized}

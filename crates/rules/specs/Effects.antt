@@ -6,7 +6,6 @@ use Rattle.record_layout.specs.Bytes.{word_bytes}
 use Rattle.record_layout.specs.Declarations.{Declaration}
 use Rattle.record_layout.specs.Fields.{record_of}
 use Rattle.record_layout.specs.declared.fields.Fields.{Fields}
-use Rattle.record_layout.specs.declared.fields.Fields
 use Rattle.objects.specs.Places.{no_pair, given_out, declared_with, called_object, called_pair, let_go, settled, restores, restored, spoiled_pair}
 use Rattle.objects.specs.declared.Object.{Object}
 use Rattle.objects.specs.declared.Pair.{Pair}

@@ -2,9 +2,7 @@
 use Rattle.std.specs.Prelude.{ℕ, true, false, List, [], ◌∷◌, ◌++◌, drop, length, replicate, set}
 use Rattle.counters.specs.Sizes.{base}
 use Rattle.record_layout.specs.declared.fields.Event.{Event}
-use Rattle.record_layout.specs.declared.fields.Event
 use Rattle.record_layout.specs.declared.fields.Fields.{Fields}
-use Rattle.record_layout.specs.declared.fields.Fields
 use Rattle.rules.specs.Tables.{State, object_at, fresh_tables}
 use Rattle.rules.specs.Steps.{Outcome}
 use Rattle.rules.specs.Events.{Handed, outcome_of}

@@ -8,11 +8,8 @@ use Rattle.counters.specs.Sizes.{Size}
 use Rattle.record_layout.specs.Declarations.{Declaration, declarations_of}
 use Rattle.record_layout.specs.Reading.{reading, listing}
 use Rattle.record_layout.specs.declared.fields.Event.{Event}
-use Rattle.record_layout.specs.declared.fields.Event
 use Rattle.record_layout.specs.declared.fields.Fields.{Fields}
-use Rattle.record_layout.specs.declared.fields.Fields
 use Rattle.record_layout.specs.declared.fields.Reading.{Reading}
-use Rattle.record_layout.specs.declared.fields.Reading
 use Rattle.kinds.specs.Kinds.{acted}
 use Rattle.kinds.specs.declared.Acted.{Acted}
 use Rattle.rules.specs.Tables.{State, object_at, live_at, pair_at}

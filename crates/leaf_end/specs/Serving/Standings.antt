@@ -1,5 +1,5 @@
 -- How the slot of an end stands: whether it is doomed, whether a terminal need is not met, and how many bytes its entries have.
-use Rattle.std.specs.Prelude.{ℕ, ◌+◌, Bool, false, ◌||◌, length}
+use Rattle.std.specs.Prelude.{ℕ, ◌+◌, false, ◌||◌, length}
 use Rattle.counters.specs.Sizes.{Size}
 use Rattle.objects.specs.declared.Object.{Object}
 use Rattle.objects.specs.declared.Pair.{Pair}

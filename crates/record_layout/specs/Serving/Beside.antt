@@ -6,7 +6,6 @@ use Rattle.counters.specs.declared.SlotNo.{SlotNo}
 use Rattle.record_layout.specs.Entries.{entries_of, rising_from}
 use Rattle.record_layout.specs.declared.kind.Shape.{Shape}
 use Rattle.record_layout.specs.declared.fields.Fields.{Fields}
-use Rattle.record_layout.specs.declared.fields.Fields
 
 -- how many items a list of so many bytes has to be
 abbrev pub items_beside : Size → Shape → ℕ → ℕ

@@ -1,9 +1,7 @@
 -- What the theorems on records ask of the fields: that each fits its type, as every value of the code does.
 use Rattle.std.specs.Prelude.{◌<◌, ◌^◌}
 use Rattle.record_layout.specs.declared.fields.Event.{Event}
-use Rattle.record_layout.specs.declared.fields.Event
 use Rattle.record_layout.specs.declared.fields.Fields.{Fields}
-use Rattle.record_layout.specs.declared.fields.Fields
 
 abbrev pub FitEvent : Event → Type 0
 FitEvent (Event.Start slot) = slot.0 < 256
