@@ -12,7 +12,7 @@ HEADERS = (FOLDER / "include", FOLDER, ROOT / "library")
 LIBRARY = ROOT / "target" / "library"
 SMALL = ("-Os",)
 # What the kit's module says of the computer that it was made for.
-HOST_ATTRIBUTES = re.compile(r'"(target-cpu|probe-stack)"="[^"]*" ?')
+HOST_ATTRIBUTES = re.compile(r'"(target-cpu|probe-stack|stack-probe-size)"="[^"]*" ?')
 # Each function can be left out by the linker, and the words of one kind of file are no fault for another.
 COMMON = ("-ffunction-sections", "-fdata-sections", "-Wno-override-module", "-Wno-unused-command-line-argument")
 # A place that is proved to be never reached stops the processor, in place of whatever stands behind it.

@@ -4,6 +4,9 @@ import re
 
 ROOT = pathlib.Path(__file__).resolve().parent.parent
 CRATES = ROOT / "crates"
+# What a crate is written in, by folder, and the folder that rt makes.
+PARTS = {"src": ".rt", "specs": ".antt", "proofs": ".antt"}
+OUT = "out"
 FUNCTION = re.compile(r'^ *(?:pub )?(?:extern "C" )?fn (\w+)', re.MULTILINE)
 # The first line of a part of a source: a function or a constant of code; a definition, also line by line, of a specification.
 PART = {".rt": re.compile(r'^ *(?:pub )?(?:extern "C" )?(?:fn|const) (\w+)', re.MULTILINE),
@@ -33,8 +36,12 @@ def reached(names):
     return found
 
 
-def text_of(crate, folder, ending):
-    return "".join(file.read_text() for file in sorted((CRATES / crate / folder).rglob("*" + ending)))
+def is_program(crate):
+    return (CRATES / crate / "src" / "main.rt").is_file()
+
+
+def text_of(crate, folder):
+    return "".join(file.read_text() for file in sorted((CRATES / crate / folder).rglob("*" + PARTS[folder])))
 
 
 def edits(crate):
@@ -44,7 +51,7 @@ def edits(crate):
 
 def counts(crate):
     """Its functions, its lines of code, of definitions and of proofs, and its wrong programs."""
-    code, definitions, proofs = (text_of(crate, *where) for where in (("src", ".rt"), ("specs", ".antt"), ("proofs", ".antt")))
+    code, definitions, proofs = (text_of(crate, folder) for folder in PARTS)
     return [len(FUNCTION.findall(code)), code.count("\n"), definitions.count("\n"), proofs.count("\n"), len(edits(crate))]
 
 

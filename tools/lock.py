@@ -1,4 +1,4 @@
-"""The lock on this clone: whatever proves here holds it, since two that prove at once spoil each other's files."""
+"""The lock on this clone: whatever proves here holds it, so that what one has built is still there when it comes to use it."""
 import contextlib
 import fcntl
 import os
@@ -14,7 +14,7 @@ WAITING = "another command is proving here; waiting"
 
 @contextlib.contextmanager
 def held() -> Iterator[None]:
-    """Holds the lock. It is on the clone's folder: a file in target/ would go with rt ci, and another would stay behind."""
+    """Holds the lock. It is on the clone's folder: a file would stay behind."""
     if os.environ.get(HELD) == str(ROOT):
         yield
         return

@@ -8,7 +8,7 @@ import argparse  # noqa: E402
 import shutil  # noqa: E402
 import subprocess  # noqa: E402
 
-KIT = "rattle-kit-5b logic 064da1ca440f63e7"
+KIT = "rattle-kit-13f logic dac8208d650f15bf"
 
 
 def words_of(name: str, description: str) -> argparse.ArgumentParser:

@@ -1,13 +1,13 @@
-"""Notes of what was proved: a program whose sources, kit and file are as noted need not be proved again."""
+"""Notes of what was proved: a program whose sources, kit and file are as noted need not be asked of rt again."""
 import hashlib
 import os
 from pathlib import Path
-from typing import Iterable, List
+from typing import Iterable, Iterator, List
 
-from tools.counting import CRATES, ROOT, reached
+from tools.counting import CRATES, OUT, ROOT, is_program, reached
 from tools.needs import KIT
 
-TARGET = ROOT / "target"
+NOTES = ROOT / "target" / "proved"
 NO_PROGRAM = "none"
 
 
@@ -20,21 +20,32 @@ def digest_of(files: Iterable[Path]) -> str:
     return digest.hexdigest()
 
 
+def files_of(crate: str) -> Iterator[Path]:
+    """The files of a crate but those that rt made of them."""
+    for part in sorted((CRATES / crate).iterdir()):
+        if part.name != OUT:
+            yield from sorted(part.rglob("*") if part.is_dir() else [part])
+
+
 def sources(crate: str) -> str:
     """The digest of all that a crate is proved from: the list of crates, and every file of those that it reaches."""
-    found = (file for name in sorted(reached([crate])) for file in sorted((CRATES / name).rglob("*")))
+    found = (file for name in sorted(reached([crate])) for file in files_of(name))
     return digest_of([ROOT / "crates.txt", *(file for file in found if file.is_file())])
+
+
+def program_file(crate: str) -> Path:
+    return CRATES / crate / OUT / crate
 
 
 def program(crate: str) -> str:
     """The digest of a program's file."""
-    file = TARGET / "bin" / crate
+    file = program_file(crate)
     return digest_of([file]) if file.is_file() else NO_PROGRAM
 
 
 def noted(crate: str) -> List[str]:
     """Both digests as they were when a program was proved; nothing where none was."""
-    file = TARGET / "proved" / crate
+    file = NOTES / crate
     return file.read_text().split() if file.is_file() else []
 
 
@@ -44,13 +55,6 @@ def is_proved(crate: str) -> bool:
 
 def note(crate: str, proved_from: str) -> None:
     """Notes a program that was proved, if its sources are still those of before the proof."""
-    if program(crate) != NO_PROGRAM and sources(crate) == proved_from:
-        (TARGET / "proved").mkdir(exist_ok=True)
-        (TARGET / "proved" / crate).write_text(f"{proved_from} {program(crate)}\n")
-
-
-def distrust(crate: str) -> None:
-    """Has rt make a program again whose file is gone or is not the one noted: rt itself looks at the sources alone."""
-    is_program, found = (CRATES / crate / "src" / "main.rt").is_file(), program(crate)
-    if is_program and (found == NO_PROGRAM or found not in (noted(crate)[1:] or [found])):
-        (TARGET / "stamp" / crate).unlink(missing_ok=True)
+    if is_program(crate) and program(crate) != NO_PROGRAM and sources(crate) == proved_from:
+        NOTES.mkdir(parents=True, exist_ok=True)
+        (NOTES / crate).write_text(f"{proved_from} {program(crate)}\n")

@@ -4,33 +4,39 @@ import sys
 import time
 from typing import Iterable, Set, TextIO
 
-DONE = re.compile(r"rt: (\w+) (?:proved|NOT PROVED)")
+from tools.counting import reached
+
+# What rt prints when it begins a crate, and the prover when it has proved it.
+BEGUN = re.compile(r"rt: chose --jobs \d+ for (\w+)")
+PROVED = re.compile(r"logic=proved ")
 # Seconds after which it takes long.
 LONG = 10
 CLEAR = "\r\x1b[K"
 
 
 class Progress:
-    """Counts crates by what rt prints of them."""
+    """Counts crates by what rt prints of them: what a crate uses is proved before it, or was already."""
 
     def __init__(self, crates: Iterable[str], out: TextIO = sys.stderr):
         self.crates, self.out = set(crates), out
         self.done: Set[str] = set()
-        self.last, self.shown = "", ""
+        self.now, self.shown = "", ""
         self.terminal, self.began = out.isatty(), time.monotonic()
 
     def take(self, line: str) -> None:
         """Takes a line of rt."""
-        found = DONE.match(line)
-        if found and found[1] in self.crates - self.done:
-            self.last = found[1]
-            self.done.add(self.last)
+        begun = BEGUN.match(line)
+        if begun and begun[1] in self.crates:
+            self.now = begun[1]
+            self.done |= reached([self.now]) - {self.now}
+        elif PROVED.match(line) and self.now not in {"", *self.done}:
+            self.done.add(self.now)
             if not self.terminal and time.monotonic() - self.began > LONG:
                 print(self.text(), file=self.out, flush=True)
 
     def text(self) -> str:
-        seconds, last = time.monotonic() - self.began, f", {self.last} last" if self.last else ""
-        return f"proving: {len(self.done)} of {len(self.crates)} crates done{last}, {seconds:.0f} s"
+        seconds, at = time.monotonic() - self.began, f", at {self.now}" if self.now else ""
+        return f"proving: {len(self.done)} of {len(self.crates)} crates done{at}, {seconds:.0f} s"
 
     def tick(self) -> None:
         """Shows on a terminal how far it is."""

@@ -8,16 +8,12 @@ import sys
 import tempfile
 import time
 from pathlib import Path
-from typing import Callable, Iterator, List, Optional
+from typing import Callable, Iterator, List, Optional, Sequence, Set
 
 from tools.counting import ROOT
 
-# Seconds between two looks, and for a group to end after it was told to.
+# Seconds between two looks, and for processes to end after they were told to.
 PACE, PATIENCE = 0.2, 5
-# With its memory in large pages the prover takes about a tenth less time. rt waits for a whole batch of checks: in large batches fewer wait. A
-# check takes up to two GiB.
-MEMORY = os.sysconf("SC_PHYS_PAGES") * os.sysconf("SC_PAGE_SIZE") >> 30
-SETTINGS = {"GLIBC_TUNABLES": "glibc.malloc.hugetlb=1", "RT_JOBS": os.environ.get("RT_JOBS", str(min(max(MEMORY // 2, 2), 10)))}
 
 
 def interrupts() -> List[signal.Signals]:
@@ -34,7 +30,7 @@ def end_quietly() -> None:
 
 @contextlib.contextmanager
 def noted_interrupts() -> Iterator[List[int]]:
-    """What would end this command is only noted, so that it can't come between the start of a group and its end."""
+    """What would end this command is only noted, so that it can't come between the start of a command and its end."""
     numbers: List[int] = []
     before = {number: signal.signal(number, lambda number, frame: numbers.append(number)) for number in interrupts()}
     try:
@@ -44,14 +40,15 @@ def noted_interrupts() -> Iterator[List[int]]:
             signal.signal(number, handler)
 
 
-def run(words: List[str], take: Optional[Callable[[str], None]] = None, tick: Callable[[], None] = lambda: None, **settings) -> int:
-    """The status of a command that runs in a group of its own; where take is given it is handed each line that is printed."""
+def run(words: Sequence[str], take: Optional[Callable[[str], None]] = None, tick: Callable[[], None] = lambda: None, folder: Path = ROOT,
+        source: object = subprocess.DEVNULL) -> int:
+    """The status of a command that runs in a session of its own; where take is given it is handed each line that is printed."""
     streams = {} if take is None else {"stdout": subprocess.PIPE, "stderr": subprocess.STDOUT}
-    with noted_interrupts() as numbers, tempfile.TemporaryDirectory(prefix="gustlantern-") as folder:
+    with noted_interrupts() as numbers, tempfile.TemporaryDirectory(prefix="gustlantern-") as temporary:
         # rt runs programs there, as nobody where it runs as root.
-        os.chmod(folder, 0o711)
-        environment = {**os.environ, **SETTINGS, **settings, "TMPDIR": folder}
-        ran = subprocess.Popen(words, stdin=subprocess.DEVNULL, start_new_session=True, env=environment, cwd=ROOT, **streams)
+        os.chmod(temporary, 0o711)
+        environment = {**os.environ, "TMPDIR": temporary}
+        ran = subprocess.Popen(words, stdin=source, start_new_session=True, env=environment, cwd=folder, **streams)
         try:
             for line in lines_of(ran):
                 if numbers:
@@ -60,7 +57,7 @@ def run(words: List[str], take: Optional[Callable[[str], None]] = None, tick: Ca
                     take(line)
                 tick()
         finally:
-            end_group(ran)
+            end_session(ran)
     if numbers:
         sys.exit(128 + numbers[0])
     return ran.returncode if ran.returncode >= 0 else 128 - ran.returncode
@@ -84,22 +81,26 @@ def lines_of(ran: subprocess.Popen) -> Iterator[str]:
         yield ""
 
 
-def runs(group: int) -> bool:
-    """Whether a process of a group still runs: one that has ended may stay in the system's list until its parent looks."""
+def running(session: int) -> Set[int]:
+    """The processes of a session that still run: one that has ended may stay in the system's list until its parent looks."""
+    found = set()
     for file in Path("/proc").glob("[0-9]*/stat"):
         with contextlib.suppress(OSError):
-            state, _, its_group = file.read_text(errors="replace").rpartition(")")[2].split()[:3]
-            if int(its_group) == group and state != "Z":
-                return True
-    return False
+            state, _, _, its_session = file.read_text(errors="replace").rpartition(")")[2].split()[:4]
+            if int(its_session) == session and state != "Z":
+                found.add(int(file.parent.name))
+    return found
 
 
-def end_group(ran: subprocess.Popen) -> None:
-    """Ends what is left of a command's group."""
+def end_session(ran: subprocess.Popen) -> None:
+    """Ends what is left of a command's session: rt has its provers in a group of their own. Each process is told once, and then killed."""
     for number in (signal.SIGTERM, signal.SIGKILL):
-        with contextlib.suppress(ProcessLookupError):
-            os.killpg(ran.pid, number)
+        told: Set[int] = set()
         until = time.monotonic() + PATIENCE
-        while runs(ran.pid) and time.monotonic() < until:
+        while (left := running(ran.pid)) and time.monotonic() < until:
+            for process in left - told:
+                with contextlib.suppress(ProcessLookupError):
+                    os.kill(process, number)
+            told |= left
             time.sleep(PACE / 10)
     ran.wait()

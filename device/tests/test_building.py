@@ -17,7 +17,7 @@ define i32 @gustlantern_answer(i32 %given) #0 {
   %sum = add i32 %given, 42
   ret i32 %sum
 }
-attributes #0 = { nounwind "probe-stack"="inline-asm" "target-cpu"="x86-64" }
+attributes #0 = { nounwind "probe-stack"="inline-asm" "stack-probe-size"="3072" "target-cpu"="x86-64-v2" }
 """
 CALLER = """#include "host.h"
 uint32_t gustlantern_answer(uint32_t given);
@@ -44,7 +44,7 @@ class Building(unittest.TestCase):
     def test_module_for_another_computer_is_compiled_and_called(self):
         plain = plain_module(self.file("of_test.ll", MODULE))
         self.assertNotIn("x86-64", plain.read_text())
-        self.assertNotIn("probe-stack", plain.read_text())
+        self.assertNotIn("probe", plain.read_text())
         objects = [compile_c(source, M0_PLUS) for source in (self.file("caller.c", CALLER), START, SUPPORT)]
         made = link([compile_module(plain, M0_PLUS), *objects], place(M0_PLUS, SMALL, "of_test.elf"))
         written = io.StringIO()
@@ -67,9 +67,12 @@ class Building(unittest.TestCase):
             kit.command(["no-such-command"])
 
     def test_copy_of_the_kit_has_all_of_it_and_another_clang(self):
-        copy = kit.kit_that_keeps(self.folder / "kept.bc")
-        for entry in kit.home().iterdir():
-            self.assertTrue((copy / entry.name).exists(), entry.name)
+        copy = self.folder / "kit"
+        rt = kit.kit_that_keeps(copy, self.folder / "kept.bc")
+        for folder in (".", "bin", "toolchain", "toolchain/bin"):
+            for entry in (kit.home() / folder).iterdir():
+                self.assertTrue((copy / folder / entry.name).exists(), entry.name)
+        self.assertEqual(kit.command([str(rt), "doc"]), f"{copy.resolve()}/START-HERE.md\n")
         clang = copy / kit.TOOLCHAIN / "bin" / "clang"
         given, made = self.file("given.bc", MODULE), self.folder / "made.ll"
         kit.command([str(clang), "-S", "-emit-llvm", "-Wno-override-module", "-x", "ir", str(given), "-o", str(made)])

@@ -15,25 +15,32 @@ from tools.needs import KIT
 TOOLS = Path(__file__).resolve().parent.parent
 LIMIT = 30
 
-# As rt does, it proves in the background, where SIGINT is ignored, makes a temporary folder, and looks at the stamps of a crate.
+# As rt does, it works in a crate's folder, has its provers in a group of their own, where SIGINT is ignored, makes a temporary folder, and
+# builds a program anew whose file is not the one that it built.
 RT = """#!/bin/sh
 [ "$1" != version ] || { echo "${STAND_IN_KIT:-%s}"; exit; }
-shift
+[ "$1" != ci ] || { echo "$PWD $*" >calls; printf "$STAND_IN_LINES"; exit "${STAND_IN_STATUS:-0}"; }
+crate=$(basename "$PWD")
 here=$(mktemp -d)
-echo begin >>calls
+echo begin >>../../calls
 for name in lower upper; do
-    sleep "${STAND_IN_SECONDS:-0}" &
+    [ -z "${STAND_IN_SECONDS:-}" ] || '%s' -c 'import os, time; os.setpgid(0, 0); time.sleep(float(os.environ["STAND_IN_SECONDS"]))' &
     wait
-    [ "$name" != "${STAND_IN_FAILS:-}" ] || { echo "rt: $name NOT PROVED (exit 1, 0 s)"; exit 1; }
-    echo "rt: $name proved (0 s)"
+    echo "rt: chose --jobs 2 for $name"
+    [ "$name" != "${STAND_IN_FAILS:-}" ] || { echo "fn $name::last: not proved"; echo "logic=not-proved"; exit 1; }
+    echo "fn $name::first: proved"
+    echo "logic=proved functions=1"
+    [ "$name" != "$crate" ] || break
 done
-[ -z "${STAND_IN_CHANGES:-}" ] || echo changed >>"$STAND_IN_CHANGES"
-mkdir -p target/bin target/stamp
-[ -f target/stamp/upper ] || echo program >target/bin/upper
-touch target/stamp/upper
+[ -z "${STAND_IN_CHANGES:-}" ] || echo changed >>"../../$STAND_IN_CHANGES"
+if [ "$1" = run ]; then
+    mkdir -p out
+    [ -f "out/$crate" ] && cksum <"out/$crate" | cmp -s - out/stamp || { echo program >"out/$crate"; cksum <"out/$crate" >out/stamp; }
+    cat >../../given
+fi
 rm -r "$here"
-echo end >>calls
-""" % KIT
+echo end >>../../calls
+""" % (KIT, sys.executable)
 
 
 class Clone(unittest.TestCase):
@@ -93,7 +100,8 @@ class Clone(unittest.TestCase):
         running = []
         for process in Path("/proc").glob("[0-9]*"):
             try:
-                here = (process / "cwd").resolve() == self.root and " Z " not in (process / "stat").read_text()
+                place = (process / "cwd").resolve()
+                here = self.root in (place, *place.parents) and " Z " not in (process / "stat").read_text()
                 running += [(process / "cmdline").read_text().replace("\0", " ")] if here else []
             except OSError:
                 continue

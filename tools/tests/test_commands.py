@@ -12,7 +12,7 @@ from tools.counting import ROOT
 
 # Each command and the tools that it names where they are missing.
 COMMANDS = {"archives": ["rt"], "compare": ["rt", "cargo"], "documents": [], "measure": ["rt"],
-            "speed": ["rt", "cargo", "gcc", "valgrind"], "vectors": ["rt"]}
+            "respell": [], "speed": ["rt", "cargo", "gcc", "valgrind"], "vectors": ["rt"]}
 WRONG = {"compare": ["--sessions", "many"], "measure": ["no_such_crate"], "vectors": ["no_such_program"]}
 
 

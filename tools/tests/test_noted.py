@@ -45,13 +45,13 @@ class Notes(Clone):
         self.proves_again(STAND_IN_KIT="another kit")
 
     def test_another_program_is_made_again(self):
-        program = self.root / "target" / "bin" / "upper"
+        program = self.root / "crates/upper/out/upper"
         program.write_text("another\n")
         self.proves_again()
         self.assertEqual(program.read_text(), "program\n")
 
     def test_a_program_that_is_gone_is_made_again(self):
-        program = self.root / "target" / "bin" / "upper"
+        program = self.root / "crates/upper/out/upper"
         program.unlink()
         self.proves_again()
         self.assertEqual(program.read_text(), "program\n")
@@ -68,8 +68,17 @@ class Notes(Clone):
         self.prove("upper")
         self.assertEqual(self.calls(), self.known)
 
+    def test_what_rt_made_is_no_source(self):
+        self.write("crates/lower/out/rlib/stamp", "")
+        self.write("crates/upper/out/incremental/kept", "")
+        self.prove("upper")
+        self.assertEqual(self.calls(), self.known)
+
+    def test_a_program_is_given_its_page(self):
+        self.assertEqual((self.root / "given").read_text(), "four\n")
+
     def test_a_library_is_always_asked_for_and_keeps_its_stamp(self):
-        stamp = self.write("target/stamp/lower", "")
+        stamp = self.write("crates/lower/out/rlib/stamp", "")
         for _ in range(2):
             self.prove("lower")
             self.assertTrue(stamp.exists())

@@ -8,12 +8,19 @@ import shutil
 import signal
 import sys
 
-from tools.counting import ROOT
+from tools.counting import ROOT, reached
 from tools.lock import HELD, WAITING
 from tools.progress import CLEAR, LONG, Progress
 from tools.tests.clones import Clone
 
 CHECK = f"{sys.executable} -B -m tools.proving check"
+# What is shown of a failure: what went well is left out, function by function.
+SHOWN = """rt: chose --jobs 2 for lower
+logic=proved functions=1
+rt: chose --jobs 2 for upper
+fn upper::last: not proved
+logic=not-proved
+"""
 
 
 class Lock(Clone):
@@ -77,6 +84,10 @@ class Interrupted(Clone):
 
     def test_the_test_command_holds_the_lock_and_leaves_nothing(self):
         shutil.copy(ROOT / "test", self.root)
+        self.write("crates.txt", "lower:\nupper: lower\nbench: upper\n")
+        self.write("crates/bench/src/main.rt", "")
+        self.write("crates/bench/stdin", "")
+        self.write("tools/documents", "#!/bin/sh\n")
         ran = self.launch(["./test"], STAND_IN_SECONDS="50")
         self.begins(ran)
         waits = self.start("check", "lower")
@@ -88,14 +99,21 @@ class Interrupted(Clone):
 
 class Failing(Clone):
     def test_what_rt_printed_is_shown(self):
-        self.assertEqual(self.prove("upper", status=1, STAND_IN_FAILS="upper"), "rt: lower proved (0 s)\nrt: upper NOT PROVED (exit 1, 0 s)\n")
+        self.assertEqual(self.prove("upper", status=1, STAND_IN_FAILS="upper"), SHOWN)
         self.assertEqual(self.left(), [])
         self.prove("upper")
         self.assertEqual(self.calls(), ["begin", "begin", "end"])
 
+    def test_a_crate_that_is_not_there_is_named(self):
+        self.assertIn("no crates: no_such_crate", self.prove("upper", "no_such_crate", status=2))
+        self.assertEqual(self.calls(), [])
+
     def test_another_kit_is_named_before_any_work(self):
         self.assertIn("rt version prints 'another kit'", self.prove("upper", status=1, STAND_IN_KIT="another kit"))
         self.assertEqual(self.calls(), [])
+
+
+BEGINS, PROVED = "rt: chose --jobs 2 for %s\n", "logic=proved functions=1\n"
 
 
 def shown_on(terminal: int) -> str:
@@ -112,29 +130,38 @@ class Shown(Clone):
         ours, theirs = pty.openpty()
         with os.fdopen(theirs, "w") as terminal:
             progress = Progress({"lower", "upper"}, terminal)
-            for line in ("rt: lower proved (3 s)\n", "logic=proved\n", "rt: upper proved (1 s)\n", "rt: upper ran\n"):
+            for line in (BEGINS % "lower", "fn lower::first: proved\n", PROVED, BEGINS % "other", BEGINS % "upper", PROVED, "rt: running out/upper\n"):
                 progress.take(line)
                 progress.tick()
             progress.clear()
         shown = shown_on(ours)
-        one, two = ("proving: 1 of 2 crates done, lower last, N s", "proving: 2 of 2 crates done, upper last, N s")
-        self.assertEqual(re.sub(r"\d+ s", "N s", shown), f"{CLEAR}{one}{CLEAR}{two}{CLEAR}")
+        texts = [f"proving: {done} of 2 crates done, at {crate}, N s" for done, crate in ((0, "lower"), (1, "lower"), (1, "upper"), (2, "upper"))]
+        self.assertEqual(re.sub(r"\d+ s", "N s", shown), "".join(CLEAR + text for text in texts) + CLEAR)
+
+    def test_what_a_crate_uses_is_done_when_it_begins(self):
+        progress = Progress(reached(["record_bytes"]), io.StringIO())
+        progress.take(BEGINS % "record_bytes")
+        self.assertEqual(progress.done, reached(["record_bytes"]) - {"record_bytes"})
+        progress.take(PROVED)
+        self.assertEqual(progress.done, progress.crates)
 
     def test_elsewhere_a_crate_has_a_line_once_it_takes_long(self):
         out = io.StringIO()
         progress = Progress({"lower", "upper"}, out)
-        progress.take("rt: lower proved (3 s)\n")
-        progress.tick()
+        for line in (BEGINS % "lower", PROVED, BEGINS % "upper"):
+            progress.take(line)
+            progress.tick()
         progress.began -= LONG + 2
-        progress.take("rt: upper proved, and its run FAILED (9 s)\n")
+        progress.take(PROVED)
+        progress.take("rt: running out/upper\n")
         progress.clear()
-        self.assertRegex(out.getvalue(), r"\Aproving: 2 of 2 crates done, upper last, \d+ s\n\Z")
+        self.assertRegex(out.getvalue(), r"\Aproving: 2 of 2 crates done, at upper, \d+ s\n\Z")
 
     def test_what_rt_prints_comes_to_the_terminal_and_goes(self):
         ours, theirs = pty.openpty()
         self.ended(self.start("check", "upper", stderr=theirs, STAND_IN_SECONDS="0.3"))
         os.close(theirs)
         shown = shown_on(ours)
-        self.assertIn(f"{CLEAR}proving: 1 of 2 crates done, lower last", shown)
+        self.assertIn(f"{CLEAR}proving: 1 of 2 crates done, at upper", shown)
         self.assertTrue(shown.endswith(CLEAR), shown)
         self.assertNotIn("\n", shown)
