@@ -7,9 +7,7 @@ use lib.ListN.{length}
 use Rattle.counters.specs.Sizes.{Size}
 use Rattle.record_layout.specs.Reading.{reading, listing}
 use Rattle.record_layout.specs.declared.fields.Fields.{Fields}
-use Rattle.record_layout.specs.declared.fields.Fields
 use Rattle.record_layout.specs.declared.fields.Reading.{Reading}
-use Rattle.record_layout.specs.declared.fields.Reading
 use Rattle.record_layout.proofs.WriteBack as read_back
 use Rattle.bench_records.specs.Records.{taken_by, first_read, first_step}
 

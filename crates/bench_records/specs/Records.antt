@@ -8,9 +8,7 @@ use Rattle.counters.specs.declared.Version.{Version}
 use Rattle.record_layout.specs.Bytes.{word_of}
 use Rattle.record_layout.specs.Reading.{reading, listing}
 use Rattle.record_layout.specs.declared.fields.Fields.{Fields}
-use Rattle.record_layout.specs.declared.fields.Fields
 use Rattle.record_layout.specs.declared.fields.Reading.{Reading}
-use Rattle.record_layout.specs.declared.fields.Reading
 use Rattle.rules.specs.Tables.{State, fresh_tables}
 use Rattle.rules.specs.Steps.{Outcome, read_step}
 use Rattle.bench_records.specs.declared.Answered.{Answered}
