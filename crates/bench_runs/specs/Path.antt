@@ -5,9 +5,7 @@ use Rattle.answers.specs.Order.{pick}
 use Rattle.counters.specs.Sizes.{base}
 use Rattle.record_layout.specs.Reading.{reading, listing}
 use Rattle.record_layout.specs.declared.fields.Fields.{Fields}
-use Rattle.record_layout.specs.declared.fields.Fields
 use Rattle.record_layout.specs.declared.fields.Reading.{Reading}
-use Rattle.record_layout.specs.declared.fields.Reading
 use Rattle.rules.specs.Tables.{State}
 use Rattle.rules.specs.Events.{Handed}
 use Rattle.runs.specs.Runs.{Run, run_of}
