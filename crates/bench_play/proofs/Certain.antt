@@ -11,10 +11,8 @@ use Rattle.record_layout.specs.Bytes.{half_of}
 use Rattle.record_layout.specs.Kinds.{kind_of, body_limit}
 use Rattle.record_layout.specs.Reading.{length_field, kind_field, frame_rules, body, reading_of, reading, list_in, listing}
 use Rattle.record_layout.specs.declared.fields.Reading.{Reading}
-use Rattle.record_layout.specs.declared.fields.Reading
 use Rattle.record_layout.proofs.WriteBack.{list_inside, taken_inside}
-use Rattle.rules.specs.Tables.{State}
-use Rattle.bench_records.specs.Records.{first_read, first_step, next_read, bench_step}
+use Rattle.bench_records.specs.Records.{first_read, next_read}
 use Rattle.bench_play.specs.Bench.{Stage, answer_at}
 use Rattle.bench_play.specs.Pieces.{whole, certain}
 use Rattle.bench_play.proofs.Turns.{clash}

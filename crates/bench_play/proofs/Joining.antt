@@ -1,10 +1,10 @@
 -- However the input is cut into pieces and however small the buffer of lines, the lines are those of the whole input.
-use Rattle.std.proofs.Common.{◌≡◌, ℕ, zero, suc, ◌+◌, ◌-◌, ◌<◌, ◌≤◌, Bool, true, false, List, [], ◌∷◌, ◌++◌, length, drop, sym, refl, ap, ◌∙◌, append_assoc, append-nil, arith, drop-drop}
+use Rattle.std.proofs.Common.{◌≡◌, ℕ, zero, suc, ◌+◌, Bool, true, false, List, [], ◌∷◌, ◌++◌, length, drop, sym, refl, ap, ◌∙◌, append_assoc, append-nil, drop-drop}
 use lib.Seq.{drop-append-le}
 use Rattle.answers.specs.Order.{pick}
 use Rattle.counters.specs.Sizes.{base}
 use Rattle.bench_records.specs.Records.{Answering}
-use Rattle.bench_play.specs.Bench.{Stage, answer_at, printed_for, stage_behind, Playing, not_played, played_before, played_while, all_played, until_stopped, lines_from, bench_output}
+use Rattle.bench_play.specs.Bench.{Stage, answer_at, printed_for, stage_behind, Playing, not_played, played_before, played_while, until_stopped, lines_from, bench_output}
 use Rattle.bench_play.specs.Pieces.{playable, piece_played}
 use Rattle.bench_play.specs.Deliveries.{Delivery, Reached, reached_first, reached_by, reached_by_all, input, EndsOnce}
 use Rattle.bench_play.proofs.Turns.{one_turn, no_turn, answer_advances}

@@ -6,7 +6,7 @@ use Rattle.bench_lines.specs.Lines.{line_limit}
 use Rattle.bench_records.specs.Records.{Answering}
 use Rattle.bench_play.specs.Bench.{Stage, answer_at, printed_for, stage_behind, Playing, played_before, all_played}
 use Rattle.bench_play.specs.Pieces.{certain, playable}
-use Rattle.bench_play.proofs.Turns.{clash, Advances, answer_advances, one_turn}
+use Rattle.bench_play.proofs.Turns.{clash, answer_advances, one_turn}
 use Rattle.bench_play.proofs.Writing.{placed, written_behind, one_written}
 
 -- what it means that a record is played

@@ -1,12 +1,10 @@
 -- Records played one after the other: each takes bytes or stops the program, so that as many turns as there are bytes, and one, are all of them.
-use Rattle.std.proofs.Common.{◌≡◌, ℕ, zero, suc, ◌+◌, ◌-◌, ◌<◌, ◌≤◌, Bool, true, false, List, length, drop, sym, refl, ap, ◌∙◌, arith, length-drop}
+use Rattle.std.proofs.Common.{◌≡◌, ℕ, zero, suc, ◌+◌, ◌<◌, ◌≤◌, Bool, true, false, List, length, drop, sym, refl, ap, ◌∙◌, arith, length-drop}
 use Rattle.answers.specs.Order.{pick}
 use Rattle.counters.specs.Sizes.{base}
 use Rattle.record_layout.specs.Reading.{reading, listing}
 use Rattle.record_layout.specs.declared.fields.Fields.{Fields}
-use Rattle.record_layout.specs.declared.fields.Fields
 use Rattle.record_layout.specs.declared.fields.Reading.{Reading}
-use Rattle.record_layout.specs.declared.fields.Reading
 use Rattle.record_layout.proofs.WriteBack.{some_taken}
 use Rattle.rules.specs.Tables.{State}
 use Rattle.bench_records.specs.Records.{Answering, taken_by, stops_at, first_read, first_step, bench_step}

@@ -1,13 +1,13 @@
 -- Where nothing of a piece is taken and the bench has not stopped, it waits for input: the input has not ended, and less than a longest record is at hand.
-use Rattle.std.proofs.Common.{◌≡◌, ℕ, ◌+◌, ◌-◌, ◌<◌, ◌≤◌, Bool, true, false, not, ◌&&◌, ◌||◌, ltb, leb, List, length, drop, sym, refl, ap, ◌∙◌, arith, ltb-false, le-leb, leb-false}
+use Rattle.std.proofs.Common.{◌≡◌, ℕ, ◌+◌, ◌-◌, ◌<◌, ◌≤◌, Bool, true, false, ◌&&◌, ◌||◌, ltb, leb, List, length, drop, sym, refl, ap, ◌∙◌, arith, ltb-false, le-leb, leb-false}
 use Rattle.counters.specs.Sizes.{base}
 use Rattle.record_layout.specs.Kinds.{body_limit}
 use Rattle.record_layout.specs.Reading.{length_field}
 use Rattle.bench_lines.specs.Lines.{line_limit}
 use Rattle.bench_records.specs.Records.{Answering}
 use Rattle.bench_play.specs.Bench.{Stage, answer_at, printed_for, stage_behind, Playing, played_before, all_played}
-use Rattle.bench_play.specs.Pieces.{whole, certain, playable, piece_played}
-use Rattle.bench_play.proofs.Turns.{clash, Advances, answer_advances, one_turn, no_turn}
+use Rattle.bench_play.specs.Pieces.{whole, playable, piece_played}
+use Rattle.bench_play.proofs.Turns.{clash, answer_advances, one_turn, no_turn}
 use Rattle.bench_play.proofs.PieceTurns.{stopped_plays_nothing}
 
 pub record Waits (ended : Bool) (bytes : List ℕ) : Type 0 where

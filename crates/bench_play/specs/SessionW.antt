@@ -3,7 +3,6 @@ use Rattle.std.specs.Prelude.{ℕ, List, [], ◌∷◌, ◌++◌}
 use Rattle.record_layout.specs.Bytes.{word_bytes}
 use Rattle.record_layout.specs.Fields.{record_of}
 use Rattle.record_layout.specs.declared.fields.Fields.{Fields}
-use Rattle.record_layout.specs.declared.fields.Fields
 use Rattle.rules.specs.Events.{Handed}
 use Rattle.rules.specs.SessionW.{first, words, events}
 
