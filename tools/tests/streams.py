@@ -57,11 +57,11 @@ class Streams:
         return found.decode()
 
     def tells(self, ran: subprocess.Popen, lines: List[str] = ()) -> None:
-        """It prints these lines and no more, says on standard error that something failed, and ends with 1."""
+        """It prints these lines and no more, says on standard error that something failed, and ends with 0."""
         printed, said = ran.communicate(timeout=self.limit)
         self.assertEqual((printed or b"").decode(), "".join(lines))
         self.assertRegex(said.decode(), r"\Abench: [^\n]+\n\Z")
-        self.assertEqual(ran.returncode, 1)
+        self.assertEqual(ran.returncode, 0)
 
     def ends(self, ran: subprocess.Popen, lines: List[str] = ()) -> None:
         """It prints these lines and no more, says nothing, and ends with 0."""

@@ -24,7 +24,6 @@ FOUND_LIVE = {
     stand.SILENT_INPUT: "test_a_closed_input_is_told",
     stand.SILENT_OUTPUT: "test_a_closed_output_is_told",
     stand.WRITES_ON: "test_a_write_that_fails_behind_lines_is_told",
-    stand.ENDS_WELL: "test_a_full_output_is_told",
 }
 # Each fault with a long session that has to find it, by its delivery: whole, and in pieces of 7 bytes.
 WHOLE, PIECES = 374, 1124
