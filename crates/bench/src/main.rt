@@ -6,12 +6,11 @@ mod input;
 mod output;
 
 use std::io::{Eprint, Error};
-use std::process::ExitCode;
 
 // The language asks every loop to end; at a turn a nanosecond this one takes 584 years.
 const TURNS: u64 = 18446744073709551615;
 
-fn main(rt: HostRuntime) -> ExitCode {
+fn main(rt: HostRuntime) {
     let mut stdin = rt.stdin();
     let mut bytes = io::large_buffer();
     let mut lines = io::large_buffer();
@@ -26,26 +25,26 @@ fn main(rt: HostRuntime) -> ExitCode {
         bench = behind;
         hand = turned.kept;
         if let Err(error) = output::write(&rt, &lines, turned.used) {
-            return failed(&rt, "output", error);
+            say(&rt, "output", error);
+            return;
         }
         if bench.stopped {
-            return ExitCode::SUCCESS;
+            return;
         }
         if !turned.waits {
             continue;
         }
         let read = input::more(&mut stdin, &mut bytes, hand);
         if let Some(error) = read.failed {
-            return failed(&rt, "input", error);
+            say(&rt, "input", error);
+            return;
         }
         hand = read.hand;
         ended = read.ended;
     }
-    ExitCode::SUCCESS
 }
 
 // Says which call has failed and why, as far as there is a standard error to say it on.
-fn failed(rt: &impl Eprint, call: &str, error: Error) -> ExitCode {
+fn say(rt: &impl Eprint, call: &str, error: Error) {
     let _ = eprintln!(rt; "bench: {call}: {error}");
-    ExitCode::FAILURE
 }
