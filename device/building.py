@@ -15,8 +15,18 @@ SMALL = ("-Os",)
 HOST_ATTRIBUTES = re.compile(r'"(target-cpu|probe-stack|stack-probe-size)"="[^"]*" ?')
 # Each function can be left out by the linker, and the words of one kind of file are no fault for another.
 COMMON = ("-ffunction-sections", "-fdata-sections", "-Wno-override-module", "-Wno-unused-command-line-argument")
-# A place that is proved to be never reached stops the processor, in place of whatever stands behind it.
-FOR_MODULE = ("-mllvm", "-trap-unreachable", "-mllvm", "-no-trap-after-noreturn")
+
+
+def passes(*words: str) -> Tuple[str, ...]:
+    """Words for the compiler's passes."""
+    return tuple(word for one in words for word in ("-mllvm", one))
+
+
+# The kit gives its compiler these for what it has proved: a place that is proved to be never reached stops the processor, in place of
+# whatever stands behind it, and three passes do less.
+OF_THE_KIT = passes("-trap-unreachable", "-no-trap-after-noreturn", "-disable-machine-licm", "-disable-postra-machine-licm", "-sink-common-insts=false")
+# With eight registers at hand a constant that is hoisted soon goes to the stack and back.
+FOR_MODULE = (*OF_THE_KIT, *passes("-disable-constant-hoisting"))
 FOR_C = ("-std=c99", "-ffreestanding", "-Wall", "-Wextra", "-Werror")
 SUPPORT = FOLDER / "support.c"
 START = FOLDER / "start.c"

@@ -5,13 +5,14 @@ from pathlib import Path
 
 from tools.needs import need, words_of
 from tools.running import end_quietly
-from device.building import plain_module
+from device.building import OF_THE_KIT, passes, plain_module
 from device.kit import ROOT, NotBuilt, command, module_of, tool
 
 HOST = ROOT / "target" / "library" / "host"
 ARCHIVE = "libgustlantern.a"
 # A program of this machine may be loaded anywhere, so the library is too.
-WORDS = (f"--target={os.uname().machine}-unknown-linux-gnu", "-O2", "-fPIC", "-ffunction-sections", "-Wno-override-module")
+WORDS = (f"--target={os.uname().machine}-unknown-linux-gnu", "-O2", "-fPIC", "-ffunction-sections", "-Wno-override-module",
+         *OF_THE_KIT, *passes("-no-x86-call-frame-opt"))
 
 
 def archive(module: Path, folder: Path = HOST) -> Path:

@@ -8,9 +8,9 @@
  * overlap; every mark is 0 or 1, also before the tables are fresh (memory of zeros is so, gustlantern_marks_hold checks
  * it); one caller at a time, with interrupts off or under one lock.
  *
- * On a Cortex-M0+ at -Os it takes 5766 bytes of text and at most 376 bytes of stack. Cycles, at most: a call 456, a
- * release 142, a start 3100, a commit 5642, a rollback 11138, fresh 10730, a look 88, marks_hold 5431; an event
- * as a record about 1090 more. docs/MEASURES.md has each of them and how it was got.
+ * On a Cortex-M0+ at -Os it takes 4944 bytes of text and at most 308 bytes of stack. Cycles, at most: a call 459, a
+ * release 120, a start 3083, a commit 5636, a rollback 11276, fresh 6796, a look 85, marks_hold 5431; an event
+ * as a record about 515 more. docs/MEASURES.md has each of them and how it was got.
  */
 #ifndef GUSTLANTERN_H
 #define GUSTLANTERN_H
