@@ -48,9 +48,9 @@ def answer_of(text: str) -> str:
 
 
 def ready() -> None:
-    """Refuses, before any work, where the tool is missing that proves the program and says how it is run."""
+    """Refuses, before any work, where the tool is missing that proves the program."""
     if not shutil.which(TOOL):
-        raise NotRun(f"{TOOL} is not on the PATH: the program '{PROGRAM}' is proved and run with the Rattle kit, which README.md names")
+        raise NotRun(f"{TOOL} is not on the PATH: the program '{PROGRAM}' is proved with the Rattle kit, which README.md names")
 
 
 @functools.lru_cache(maxsize=None)
