@@ -5,8 +5,8 @@ use Rattle.bench_play.specs.Pieces.{stage_of}
 use Rattle.bench.proofs.Room.{few_stay}
 use Rattle.bench.proofs.main.Goals as goal
 
-pub more_read_requires : goal.more_read_requires
-more_read_requires c =
+pub more-read-requires : goal.more-read-requires
+more-read-requires c =
     let at = c.loop-turns in
     let turn = c.turn-turned in
     let few = few_stay turn.result at.ended (stage_of at.bench) (take at.hand at.bytes) turn.new.bytes at.lines turn.new.lines turn.ensures

@@ -2,9 +2,9 @@
 use Rattle.std.proofs.Common.{◌≡◌, ◌-◌, ◌≤◌, length}
 use Rattle.bench.proofs.main.Given as goal
 
-abbrev pub invariant_loop_turns : goal.invariant_loop_turns
-invariant_loop_turns l =
+abbrev pub invariant-loop-turns : goal.invariant-loop-turns
+invariant-loop-turns l =
     (length l.bytes ≡ 65536) × (length l.lines ≡ 65536) × (l.hand ≤ 65536)
 
-abbrev pub decreases_loop_turns : goal.decreases_loop_turns
-decreases_loop_turns l = 18446744073709551615 - l.turns
+abbrev pub decreases-loop-turns : goal.decreases-loop-turns
+decreases-loop-turns l = 18446744073709551615 - l.turns

@@ -65,8 +65,8 @@ module _ (ended : Bool) (room : ℕ) (stage : Stage) (bytes lines : List ℕ) (t
             (all_played goes (record { tables = here.tables; begun = true; event = sym next i; stopped = here.stops }) (drop (taken + here.taken) bytes) now));
       }
 
-pub overflow_add_taken : goal.overflow_add_taken
-overflow_add_taken c =
+pub overflow_add-taken : goal.overflow_add-taken
+overflow_add-taken c =
     let a = c.args in
     let turn = c.loop-stopped in
     let stage = stage_with turn.words turn.counts turn.marks turn.begun turn.event turn.stopped in
@@ -75,8 +75,8 @@ overflow_add_taken c =
     let there = taken_there a.ended room stage a.bytes.now turn.lines turn.taken turn.used _ same turn.invariant.0 in
     search rules
 
-pub loop_stopped_smaller : goal.loop_stopped_smaller
-loop_stopped_smaller c =
+pub loop-stopped-smaller : goal.loop-stopped-smaller
+loop-stopped-smaller c =
     let a = c.args in
     let turn = c.loop-stopped in
     let stage = stage_with turn.words turn.counts turn.marks turn.begun turn.event turn.stopped in
@@ -86,8 +86,8 @@ loop_stopped_smaller c =
     turn_goes_on a.ended room stage a.bytes.now turn.lines turn.taken turn.used _ same turn.invariant.0
     (ready a.ended room stage (drop turn.taken a.bytes.now) turn.used on).running
 
-pub loop_stopped_preserved : goal.loop_stopped_preserved
-loop_stopped_preserved c =
+pub loop-stopped-preserved : goal.loop-stopped-preserved
+loop-stopped-preserved c =
     let a = c.args in
     let turn = c.loop-stopped in
     let put = c.put-used in

@@ -12,8 +12,8 @@ use Rattle.bench_play.proofs.play.Given as goal
 abbrev pub stage_with : List ℕ → List ℕ → List Bool → Bool → ℕ → Bool → Stage
 stage_with words counts marks begun event stopped = record { tables = held words counts marks; begun = begun; event = event; stopped = stopped }
 
-abbrev pub invariant_loop_stopped : goal.invariant_loop_stopped
-invariant_loop_stopped l =
+abbrev pub invariant-loop-stopped : goal.invariant-loop-stopped
+invariant-loop-stopped l =
     (l.taken ≤ length l.bytes)
     × (l.used ≤ length l.initial.lines)
     × (length l.lines ≡ length l.initial.lines)
@@ -33,5 +33,5 @@ invariant_loop_stopped l =
     (drop l.taken l.bytes)
     l.used))
 
-abbrev pub decreases_loop_stopped : goal.decreases_loop_stopped
-decreases_loop_stopped l = length l.bytes - l.taken + pick l.stopped 0 1
+abbrev pub decreases-loop-stopped : goal.decreases-loop-stopped
+decreases-loop-stopped l = length l.bytes - l.taken + pick l.stopped 0 1

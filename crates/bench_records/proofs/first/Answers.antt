@@ -19,32 +19,32 @@ is_read : (bytes : List ℕ) (f g : Fields) (at taken : ℕ) → told_by_reading
     → reading base bytes ≡ Reading.Record g at taken
 is_read bytes f g at taken told same = sym (reading_tells _ _ told) ∙ ap (λ (f : Fields). Reading.Record f at taken) same
 
-pub returns_in_default : goal.returns_in_default
-returns_in_default c =
+pub returns-in_default : goal.returns-in_default
+returns-in_default c =
     c.not_fresh.ensures
     ∙ ap (not_fresh base) (c.refusal.ensures ∙ ap refusal_of c.in_default.is)
     ∙ known c.args.bytes.now _ (sym (reading_tells _ _ c.read-read.ensures) ∙ c.in_default.is)
 
-pub slice_bounds_fresh_count : goal.slice_bounds_fresh_count
-slice_bounds_fresh_count c = list_inside base c.args.bytes.now _ _ _ (is_read c.args.bytes.now _ _ _ _ c.in-Record.ensures c.in-Fresh.is)
+pub slice_bounds-fresh-count : goal.slice_bounds-fresh-count
+slice_bounds-fresh-count c = list_inside base c.args.bytes.now _ _ _ (is_read c.args.bytes.now _ _ _ _ c.in-Record.ensures c.in-Fresh.is)
 
-pub slice_bounds_fresh_start : goal.slice_bounds_fresh_start
-slice_bounds_fresh_start c = list_inside base c.args.bytes.now _ _ _ (is_read c.args.bytes.now _ _ _ _ c.in-Record.ensures c.in-Fresh.is)
+pub slice_bounds-fresh-start : goal.slice_bounds-fresh-start
+slice_bounds-fresh-start c = list_inside base c.args.bytes.now _ _ _ (is_read c.args.bytes.now _ _ _ _ c.in-Record.ensures c.in-Fresh.is)
 
-pub slice_bounds_fresh_end : goal.slice_bounds_fresh_end
-slice_bounds_fresh_end c = taken_inside base c.args.bytes.now _ _ _ (is_read c.args.bytes.now _ _ _ _ c.in-Record.ensures c.in-Fresh.is)
+pub slice_bounds-fresh-end : goal.slice_bounds-fresh-end
+slice_bounds-fresh-end c = taken_inside base c.args.bytes.now _ _ _ (is_read c.args.bytes.now _ _ _ _ c.in-Record.ensures c.in-Fresh.is)
 
-pub fresh_requires : goal.fresh_requires
-fresh_requires c =
+pub fresh-requires : goal.fresh-requires
+fresh-requires c =
     let s = c.args.bytes.now in
     let e = is_read s _ _ _ _ c.in-Record.ensures c.in-Fresh.is in
     sym (ap (λ (r : Reading). length (list_in r s)) e) ∙ list_long base s _ _ _ e
 
-pub returns_in_fresh : goal.returns_in_fresh
-returns_in_fresh c = c.fresh.ensures ∙ known c.args.bytes.now _ (is_read c.args.bytes.now _ _ _ _ c.in-Record.ensures c.in-Fresh.is)
+pub returns-in-Fresh : goal.returns-in-Fresh
+returns-in-Fresh c = c.fresh.ensures ∙ known c.args.bytes.now _ (is_read c.args.bytes.now _ _ _ _ c.in-Record.ensures c.in-Fresh.is)
 
-pub returns_in_event : goal.returns_in_event
-returns_in_event c = c.not_fresh-in-Event.ensures ∙ known c.args.bytes.now _ (is_read c.args.bytes.now _ _ _ _ c.in-Record.ensures c.in-Event.is)
+pub returns-in-Event : goal.returns-in-Event
+returns-in-Event c = c.not_fresh-in-Event.ensures ∙ known c.args.bytes.now _ (is_read c.args.bytes.now _ _ _ _ c.in-Record.ensures c.in-Event.is)
 
-pub returns_in_ended : goal.returns_in_ended
-returns_in_ended c = c.not_fresh-in-Ended.ensures ∙ known c.args.bytes.now _ (is_read c.args.bytes.now _ _ _ _ c.in-Record.ensures c.in-Ended.is)
+pub returns-in-Ended : goal.returns-in-Ended
+returns-in-Ended c = c.not_fresh-in-Ended.ensures ∙ known c.args.bytes.now _ (is_read c.args.bytes.now _ _ _ _ c.in-Record.ensures c.in-Ended.is)

@@ -3,17 +3,17 @@ use Rattle.answers.specs.declared.Verdict.TheVariants.{Passes, Refuses}
 use Rattle.leaf_start.proofs.DeclarationRules.{too_large, not_above, rises_on, rises_to_the_end}
 use Rattle.leaf_start.proofs.declarations.Goals as goal
 
-pub returns_then_size_object : goal.returns_then_size_object
-returns_then_size_object c =
+pub returns-then-size-object : goal.returns-then-size-object
+returns-then-size-object c =
     sym (c.loop-at.invariant.1 ∙ too_large Refuses Passes c.args.size c.loop-at.least c.args.list.now c.loop-at.at (search rules) c.if-size-object.true)
 
-pub returns_then_object_least : goal.returns_then_object_least
-returns_then_object_least c =
+pub returns-then-object-least : goal.returns-then-object-least
+returns-then-object-least c =
     sym (c.loop-at.invariant.1
     ∙ not_above Refuses Passes c.args.size c.loop-at.least c.args.list.now c.loop-at.at (search rules) c.if-size-object.false c.if-object-least.true)
 
-pub loop_at_preserved : goal.loop_at_preserved
-loop_at_preserved c =
+pub loop-at-preserved : goal.loop-at-preserved
+loop-at-preserved c =
     let more = rises_on Refuses Passes c.args.size c.loop-at.least c.args.list.now c.loop-at.at (search rules) c.if-size-object.false c.if-object-least.false in
     (search rules, c.loop-at.invariant.1 ∙ more)
 

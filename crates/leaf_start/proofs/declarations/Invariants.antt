@@ -5,9 +5,9 @@ use Rattle.rules.specs.Refusing.{declaration_rules}
 use Rattle.answers.specs.declared.Verdict.TheVariants.{Passes, Refuses}
 use Rattle.leaf_start.proofs.declarations.Given as goal
 
-abbrev pub invariant_loop_at : goal.invariant_loop_at
-invariant_loop_at l =
+abbrev pub invariant-loop-at : goal.invariant-loop-at
+invariant-loop-at l =
     (l.at ≤ length l.list) × (decide (declaration_rules l.size 0 (declarations_of l.list)) Refuses Passes ≡ decide (declaration_rules l.size l.least (declarations_of (drop l.at l.list))) Refuses Passes)
 
-abbrev pub decreases_loop_at : goal.decreases_loop_at
-decreases_loop_at l = length l.list - l.at
+abbrev pub decreases-loop-at : goal.decreases-loop-at
+decreases-loop-at l = length l.list - l.at

@@ -4,21 +4,21 @@ use Rattle.counters.specs.Sizes.{base}
 use Rattle.record_layout.proofs.EntryWalk.{rises_on, too_low, too_high, rises_end}
 use Rattle.record_bytes.proofs.rise.Goals as goal
 
-pub returns_then_object_least : goal.returns_then_object_least
-returns_then_object_least c =
+pub returns-then-object-least : goal.returns-then-object-least
+returns-then-object-least c =
     sym
     (c.loop-at.invariant.rest_decides
     ∙ too_low base.objects c.loop-at.least c.args.list.now c.loop-at.at (search rules) c.if-object-least.true)
 
-pub returns_then_object_ge_objects : goal.returns_then_object_ge_objects
-returns_then_object_ge_objects c =
+pub returns-then-object-ge-OBJECTS : goal.returns-then-object-ge-OBJECTS
+returns-then-object-ge-OBJECTS c =
     sym
     (c.loop-at.invariant.rest_decides
     ∙ too_high base.objects c.loop-at.least c.args.list.now c.loop-at.at (search rules) c.if-object-least.false
     c.if-object-ge-OBJECTS.true)
 
-pub loop_at_preserved : goal.loop_at_preserved
-loop_at_preserved c =
+pub loop-at-preserved : goal.loop-at-preserved
+loop-at-preserved c =
     record {
       in_list = omega arith;
       rest_decides =

@@ -4,11 +4,11 @@ use Rattle.counters.specs.Sizes.{base}
 use Rattle.record_layout.specs.Entries.{entries_of, rising_from}
 use Rattle.record_bytes.proofs.rise.Given as goal
 
-abbrev pub invariant_loop_at : goal.invariant_loop_at
-invariant_loop_at l = record {
+abbrev pub invariant-loop-at : goal.invariant-loop-at
+invariant-loop-at l = record {
   in_list : l.at ≤ length l.list;
   rest_decides : rising_from base.objects 0 (entries_of l.list) ≡ rising_from base.objects l.least (entries_of (drop l.at l.list));
 }
 
-abbrev pub decreases_loop_at : goal.decreases_loop_at
-decreases_loop_at l = length l.list - l.at
+abbrev pub decreases-loop-at : goal.decreases-loop-at
+decreases-loop-at l = length l.list - l.at

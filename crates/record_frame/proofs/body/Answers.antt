@@ -6,13 +6,13 @@ use Rattle.record_layout.proofs.Telling.{framing_tells}
 use Rattle.record_frame.proofs.Frames.{whole, not_whole}
 use Rattle.record_frame.proofs.body.Goals as goal
 
-pub returns_in_default : goal.returns_in_default
-returns_in_default c =
+pub returns-in_default : goal.returns-in_default
+returns-in_default c =
     let refused = not_whole base c.args.s.now c.in_default.field-0 (sym (framing_tells _ _ c.in_default.ensures)) in
     record { bytes = sym refused.body_is; place_is = rw (refused.place_is, zero-add) }
 
-pub slice_bounds_result_end_2 : goal.slice_bounds_result_end_2
-slice_bounds_result_end_2 c =
+pub slice_bounds-result-end-2 : goal.slice_bounds-result-end-2
+slice_bounds-result-end-2 c =
     (whole base c.args.s.now c.in-Whole.length c.in-Whole.number (sym (framing_tells _ _ c.in-Whole.ensures))).is_there
 
 pub returns : goal.returns

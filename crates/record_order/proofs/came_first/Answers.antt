@@ -15,14 +15,14 @@ tested : (read : Reading) (s : List ℕ) (test : Bool) → told_by_reading read 
     → is_end (reading base s) ≡ test
 tested read s test told gives = ap is_end (sym (reading_tells _ _ told)) ∙ sym gives
 
-pub returns_then_not_is_end : goal.returns_then_not_is_end
-returns_then_not_is_end c =
+pub returns-then-not-is_end : goal.returns-then-not-is_end
+returns-then-not-is_end c =
     let a = c.args.a.now in
     let not_a = tested c.read-read_a.result a _ c.read-read_a.ensures c.if-not-is_end.ensures in
     ap order_of (sym (refused_for_a base a c.args.b.now not_a))
 
-pub returns_then_not_is_end_2 : goal.returns_then_not_is_end_2
-returns_then_not_is_end_2 c =
+pub returns-then-not-is_end-2 : goal.returns-then-not-is_end-2
+returns-then-not-is_end-2 c =
     let a = c.args.a.now in
     let b = c.args.b.now in
     let is_a = tested c.read-read_a.result a _ c.read-read_a.ensures c.if-not-is_end.ensures in

@@ -5,14 +5,14 @@ use Rattle.record_layout.proofs.Telling.{reading_tells}
 use Rattle.record_layout.proofs.WriteBack.{list_inside, taken_inside}
 use Rattle.record_read.proofs.list_of.Goals as goal
 
-pub slice_bounds_result_count : goal.slice_bounds_result_count
-slice_bounds_result_count c =
+pub slice_bounds-result-count : goal.slice_bounds-result-count
+slice_bounds-result-count c =
     list_inside base c.args.s.now _ _ _ (sym (reading_tells _ _ c.requires) ∙ c.in-Record.is)
 
-pub slice_bounds_result_start : goal.slice_bounds_result_start
-slice_bounds_result_start c =
+pub slice_bounds-result-start : goal.slice_bounds-result-start
+slice_bounds-result-start c =
     list_inside base c.args.s.now _ _ _ (sym (reading_tells _ _ c.requires) ∙ c.in-Record.is)
 
-pub slice_bounds_result_end_2 : goal.slice_bounds_result_end_2
-slice_bounds_result_end_2 c =
+pub slice_bounds-result-end-2 : goal.slice_bounds-result-end-2
+slice_bounds-result-end-2 c =
     taken_inside base c.args.s.now _ _ _ (sym (reading_tells _ _ c.requires) ∙ c.in-Record.is)

@@ -22,21 +22,21 @@ found_reading : (s : List ℕ) (length number : ℕ) (found : KindFound) → IsW
 found_reading s length number found is_whole named =
     is_whole.reading_is ∙ ap (λ (k : KindFound). reading_of base k (body base s)) (sym named)
 
-pub slice_bounds_read_end : goal.slice_bounds_read_end
-slice_bounds_read_end c = (told_whole c.args.s.now c.in-Whole.length c.in-Whole.number c.in-Whole.ensures).is_there
+pub slice_bounds-read-end : goal.slice_bounds-read-end
+slice_bounds-read-end c = (told_whole c.args.s.now c.in-Whole.length c.in-Whole.number c.in-Whole.ensures).is_there
 
-pub returns_in_refused : goal.returns_in_refused
-returns_in_refused c =
+pub returns-in-Refused : goal.returns-in-Refused
+returns-in-Refused c =
     ap told_by_reading
     (sym (not_whole base c.args.s.now c.in-Refused.refusal (sym (framing_tells _ _ c.in-Refused.ensures))).reading_is)
 
-pub returns_in_unknown : goal.returns_in_unknown
-returns_in_unknown c =
+pub returns-in-Unknown : goal.returns-in-Unknown
+returns-in-Unknown c =
     let is_whole = told_whole c.args.s.now c.in-Whole.length c.in-Whole.number c.in-Whole.ensures in
     ap told_by_reading (sym (found_reading c.args.s.now c.in-Whole.length c.in-Whole.number _ is_whole c.in-Unknown.ensures))
 
-pub returns_in_known : goal.returns_in_known
-returns_in_known c =
+pub returns-in-Known : goal.returns-in-Known
+returns-in-Known c =
     let s = c.args.s.now in
     let is_whole = told_whole s c.in-Whole.length c.in-Whole.number c.in-Whole.ensures in
     let there = ap (λ (n : ℕ). take n (drop 4 s)) (add-sub_cancel_left 4 c.in-Whole.length) ∙ sym is_whole.body_is in

@@ -6,8 +6,8 @@ use Rattle.tables.specs.Views.{view}
 use Rattle.step_call.proofs.Looked.{LookedAtPair, call_refused, call_passed}
 use Rattle.step_call.proofs.call.Goals as goal
 
-pub returns_in_refuses : goal.returns_in_refuses
-returns_in_refuses c =
+pub returns-in-Refuses : goal.returns-in-Refuses
+returns-in-Refuses c =
     let a = c.args in
     let looked : LookedAtPair a.size (view a.size a.words.now a.bytes.now a.marks.now) a.slot.0 a.number.0 c.keep_in_range-s.result c.keep_in_range-o.result
     c.live_at-live.result c.pair_at-pair.result c.object_at-object.result =
@@ -23,8 +23,8 @@ returns_in_refuses c =
           c.in-Refuses.refusal (sym c.in-Refuses.ensures),
     )
 
-pub returns_in_passes : goal.returns_in_passes
-returns_in_passes c =
+pub returns-in-Passes : goal.returns-in-Passes
+returns-in-Passes c =
     let a = c.args in
     let s = c.keep_in_range-s.result in
     let o = c.keep_in_range-o.result in

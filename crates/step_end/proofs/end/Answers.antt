@@ -4,8 +4,8 @@ use Rattle.tables.specs.Views.{view}
 use Rattle.step_end.proofs.Ended.{LookedAtSlot, end_refused, end_passed}
 use Rattle.step_end.proofs.end.Goals as goal
 
-pub returns_in_refuses : goal.returns_in_refuses
-returns_in_refuses c =
+pub returns-in-Refuses : goal.returns-in-Refuses
+returns-in-Refuses c =
     let a = c.args in
     let standing = c.look-standing.result in
     let found = view a.size a.words.now a.bytes.now a.marks.now in
@@ -19,8 +19,8 @@ returns_in_refuses c =
     } in
     (c.requires.0, end_refused looked a.rollback a.tick c.in-Refuses.refusal (sym c.verdict.ensures ∙ c.in-Refuses.is))
 
-pub returns_in_passes : goal.returns_in_passes
-returns_in_passes c =
+pub returns-in-Passes : goal.returns-in-Passes
+returns-in-Passes c =
     let a = c.args in
     let standing = c.look-standing.result in
     let found = view a.size a.words.now a.bytes.now a.marks.now in

@@ -4,13 +4,13 @@ use Rattle.leaf_end.proofs.Standings.{stands_first, stands_on}
 use Rattle.tables.specs.Views.{view}
 use Rattle.step_end.proofs.look.Goals as goal
 
-pub loop_o_init : goal.loop_o_init
-loop_o_init c =
+pub loop-o-init : goal.loop-o-init
+loop-o-init c =
     let a = c.args in
     stands_first a.size (view a.size a.words.now a.bytes.now a.marks.now) a.s c.of_none-standing.result c.of_none-standing.ensures
 
-pub loop_o_preserved : goal.loop_o_preserved
-loop_o_preserved c =
+pub loop-o-preserved : goal.loop-o-preserved
+loop-o-preserved c =
     let a = c.args in
     let o = c.loop-o.o in
     stands_on a.size (view a.size a.words.now a.bytes.now a.marks.now) a.s o c.loop-o.standing c.add-standing.result c.loop-o-test.true

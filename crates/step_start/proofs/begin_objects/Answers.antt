@@ -5,13 +5,13 @@ use Rattle.tables.specs.Views.{view}
 use Rattle.step_start.specs.Serving.Beginnings.{begin_object}
 use Rattle.step_start.proofs.begin_objects.Goals as goal
 
-pub loop_o_init : goal.loop_o_init
-loop_o_init c =
+pub loop-o-init : goal.loop-o-init
+loop-o-init c =
     let a = c.args in
     (omega arith, (c.requires.0, λ b k. sym (each_zero (begin_object a.first.0 a.given.now) (view a.size a.words.now b k))))
 
-pub loop_o_preserved : goal.loop_o_preserved
-loop_o_preserved c =
+pub loop-o-preserved : goal.loop-o-preserved
+loop-o-preserved c =
     let a = c.args in
     let met = c.loop-o in
     let one = begin_object a.first.0 a.given.now in (

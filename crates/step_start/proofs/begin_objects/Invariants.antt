@@ -5,8 +5,8 @@ use Rattle.tables.specs.Serving.Changes.{WordsBecome}
 use Rattle.step_start.specs.Serving.Beginnings.{begin_object}
 use Rattle.step_start.proofs.begin_objects.Given as goal
 
-abbrev pub invariant_loop_o : goal.invariant_loop_o
-invariant_loop_o l = (l.o ≤ l.size.objects) × WordsBecome l.size l.fn.words l.words (each_below l.o (begin_object l.first.0 l.given))
+abbrev pub invariant-loop-o : goal.invariant-loop-o
+invariant-loop-o l = (l.o ≤ l.size.objects) × WordsBecome l.size l.fn.words l.words (each_below l.o (begin_object l.first.0 l.given))
 
-abbrev pub decreases_loop_o : goal.decreases_loop_o
-decreases_loop_o l = l.size.objects - l.o
+abbrev pub decreases-loop-o : goal.decreases-loop-o
+decreases-loop-o l = l.size.objects - l.o

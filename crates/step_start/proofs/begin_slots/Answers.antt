@@ -5,11 +5,11 @@ use Rattle.tables.specs.Views.{view}
 use Rattle.tables.proofs.Walk.{walk_first, walk_on}
 use Rattle.step_start.proofs.begin_slots.Goals as goal
 
-pub loop_s_init : goal.loop_s_init
-loop_s_init c = walk_first c.requires
+pub loop-s-init : goal.loop-s-init
+loop-s-init c = walk_first c.requires
 
-pub loop_s_preserved : goal.loop_s_preserved
-loop_s_preserved c =
+pub loop-s-preserved : goal.loop-s-preserved
+loop-s-preserved c =
     let size = c.args.size in
     let met = c.loop-s in
     let w = c.clear.new.words in

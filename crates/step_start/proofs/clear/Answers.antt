@@ -4,11 +4,11 @@ use Rattle.tables.specs.Views.{view}
 use Rattle.tables.proofs.Walk.{walk_first, walk_on}
 use Rattle.step_start.proofs.clear.Goals as goal
 
-pub loop_o_init : goal.loop_o_init
-loop_o_init c = walk_first c.requires.0
+pub loop-o-init : goal.loop-o-init
+loop-o-init c = walk_first c.requires.0
 
-pub loop_o_preserved : goal.loop_o_preserved
-loop_o_preserved c =
+pub loop-o-preserved : goal.loop-o-preserved
+loop-o-preserved c =
     let a = c.args in
     let met = c.loop-o in
     let stored = c.store_pair in

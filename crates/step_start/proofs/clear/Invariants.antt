@@ -5,8 +5,8 @@ use Rattle.rules.specs.Tables.{with_pair}
 use Rattle.tables.proofs.Walk.{Walk}
 use Rattle.step_start.proofs.clear.Given as goal
 
-abbrev pub invariant_loop_o : goal.invariant_loop_o
-invariant_loop_o l = Walk l.size (λ q t. with_pair l.size t l.s q no_pair) l.size.objects l.fn.words l.fn.bytes l.fn.marks l.o l.words l.bytes l.marks
+abbrev pub invariant-loop-o : goal.invariant-loop-o
+invariant-loop-o l = Walk l.size (λ q t. with_pair l.size t l.s q no_pair) l.size.objects l.fn.words l.fn.bytes l.fn.marks l.o l.words l.bytes l.marks
 
-abbrev pub decreases_loop_o : goal.decreases_loop_o
-decreases_loop_o l = l.size.objects - l.o
+abbrev pub decreases-loop-o : goal.decreases-loop-o
+decreases-loop-o l = l.size.objects - l.o

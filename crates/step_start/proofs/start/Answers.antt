@@ -3,22 +3,22 @@ use Rattle.leaf_start.proofs.StartLoops.{Judged, start_refused, list_within, sta
 use Rattle.tables.specs.Views.{view}
 use Rattle.step_start.proofs.start.Goals as goal
 
-pub declare_all_requires : goal.declare_all_requires
-declare_all_requires c =
+pub declare_all-requires : goal.declare_all-requires
+declare_all-requires c =
     let a = c.args in
     let judged : Judged a.size (view a.size a.words.now a.bytes.now a.marks.now) a.slot.0 c.keep_in_range-s.result a.list.now c.live_at.result c.verdict.result =
     record { right_slot = c.keep_in_range-s.ensures.1; is_live = c.live_at.ensures; is_verdict = c.verdict.ensures } in
     (c.clear.ensures.0, c.keep_in_range-s.ensures.0, list_within judged c.in-Passes.is)
 
-pub returns_in_refuses : goal.returns_in_refuses
-returns_in_refuses c =
+pub returns-in-Refuses : goal.returns-in-Refuses
+returns-in-Refuses c =
     let a = c.args in
     let judged : Judged a.size (view a.size a.words.now a.bytes.now a.marks.now) a.slot.0 c.keep_in_range-s.result a.list.now c.live_at.result c.verdict.result =
     record { right_slot = c.keep_in_range-s.ensures.1; is_live = c.live_at.ensures; is_verdict = c.verdict.ensures } in
     (c.requires.0, start_refused judged c.in-Refuses.is)
 
-pub returns_in_passes : goal.returns_in_passes
-returns_in_passes c =
+pub returns-in-Passes : goal.returns-in-Passes
+returns-in-Passes c =
     let a = c.args in
     let size = a.size in
     let judged : Judged size (view size a.words.now a.bytes.now a.marks.now) a.slot.0 c.keep_in_range-s.result a.list.now c.live_at.result c.verdict.result =

@@ -5,13 +5,13 @@ use Rattle.bench_lines.specs.Serving.Made.{made}
 use Rattle.bench_lines.proofs.Digits.{decimal_counted, digit_put, digit_counted, no_digits}
 use Rattle.bench_lines.proofs.Line.number.Goals as goal
 
-pub byte_line_requires_in_loop_rest : goal.byte_line_requires_in_loop_rest
-byte_line_requires_in_loop_rest c =
+pub byte-line-requires-in-loop-rest : goal.byte-line-requires-in-loop-rest
+byte-line-requires-in-loop-rest c =
     let counted = digit_counted c.loop-rest.rest c.loop-rest-test.true c.loop-rest.invariant.0 in
     (omega arith, c.loop-rest.invariant.4)
 
-pub loop_rest_preserved : goal.loop_rest_preserved
-loop_rest_preserved c =
+pub loop-rest-preserved : goal.loop-rest-preserved
+loop-rest-preserved c =
     let rest = c.loop-rest.rest in
     let some : 0 < rest = c.loop-rest-test.true in
     let counted = digit_counted rest some c.loop-rest.invariant.0 in

@@ -2,8 +2,8 @@ use Rattle.std.proofs.Common.{◌+◌, ◌<◌, ℕ, List, length, set, get_or, 
 use Rattle.bench_lines.proofs.Moving.{moved_some, still_there, one_moved}
 use Rattle.bench_lines.proofs.buffers.to_front.Goals as goal
 
-pub loop_at_preserved : goal.loop_at_preserved
-loop_at_preserved c =
+pub loop-at-preserved : goal.loop-at-preserved
+loop-at-preserved c =
     let b = c.args.buf.now in
     let from = c.args.from in
     let at = c.loop-at.at in

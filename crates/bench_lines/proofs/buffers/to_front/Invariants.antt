@@ -3,8 +3,8 @@ use Rattle.std.proofs.Common.{◌-◌, ◌≡◌, ◌≤◌}
 use Rattle.bench_lines.proofs.Moving.{moved_some}
 use Rattle.bench_lines.proofs.buffers.to_front.Given as goal
 
-abbrev pub invariant_loop_at : goal.invariant_loop_at
-invariant_loop_at l = (l.at ≤ l.count) × (l.buf ≡ moved_some l.initial.buf l.from l.at)
+abbrev pub invariant-loop-at : goal.invariant-loop-at
+invariant-loop-at l = (l.at ≤ l.count) × (l.buf ≡ moved_some l.initial.buf l.from l.at)
 
-abbrev pub decreases_loop_at : goal.decreases_loop_at
-decreases_loop_at l = l.count - l.at
+abbrev pub decreases-loop-at : goal.decreases-loop-at
+decreases-loop-at l = l.count - l.at

@@ -3,8 +3,8 @@ use Rattle.bench_records.specs.Records.{words_of}
 use Rattle.bench_records.proofs.Wording.{words_next, words_end}
 use Rattle.bench_records.proofs.records.words.Goals as goal
 
-pub loop_o_preserved : goal.loop_o_preserved
-loop_o_preserved c =
+pub loop-o-preserved : goal.loop-o-preserved
+loop-o-preserved c =
     let turn = c.loop-o in
     let list = c.args.list.now in
     let inside : turn.o < 24 = c.loop-o-test.true in (

@@ -3,9 +3,9 @@ use Rattle.std.proofs.Common.{◌≡◌, ◌*◌, ◌-◌, ◌≤◌, ◌++◌, 
 use Rattle.bench_records.specs.Records.{words_of}
 use Rattle.bench_records.proofs.records.words.Given as goal
 
-abbrev pub invariant_loop_o : goal.invariant_loop_o
-invariant_loop_o l =
+abbrev pub invariant-loop-o : goal.invariant-loop-o
+invariant-loop-o l =
     (l.o ≤ 24) × (length l.words ≡ 24) × (words_of 24 l.list ≡ take l.o l.words ++ words_of (24 - l.o) (drop (4 * l.o) l.list))
 
-abbrev pub decreases_loop_o : goal.decreases_loop_o
-decreases_loop_o l = 24 - l.o
+abbrev pub decreases-loop-o : goal.decreases-loop-o
+decreases-loop-o l = 24 - l.o

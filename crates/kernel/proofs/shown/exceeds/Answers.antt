@@ -4,11 +4,11 @@ use Rattle.rules.specs.Walks.{any_below}
 use Rattle.rules.proofs.Walking.{any_zero, any_next}
 use Rattle.kernel.proofs.shown.exceeds.Goals as goal
 
-pub loop_i_init : goal.loop_i_init
-loop_i_init c = (search rules, sym (any_zero _))
+pub loop-i-init : goal.loop-i-init
+loop-i-init c = (search rules, sym (any_zero _))
 
-pub loop_i_preserved : goal.loop_i_preserved
-loop_i_preserved c =
+pub loop-i-preserved : goal.loop-i-preserved
+loop-i-preserved c =
     let over : ℕ → Bool = λ j. ltb 1 (get_or c.args.bytes.now j 0) in
     (search rules, c.either-found.ensures ∙ ap (λ (d : Bool). d || over c.loop-i.i) c.loop-i.invariant.1 ∙ sym (any_next over c.loop-i.i))
 

@@ -6,7 +6,7 @@ use Rattle.tables.specs.Views.{live_of}
 use Rattle.tables.proofs.Viewing.{sized}
 use Rattle.pump.proofs.looks.live.Goals as goal
 
-pub returns_then_slot_ge_slots : goal.returns_then_slot_ge_slots
-returns_then_slot_ge_slots c =
+pub returns-then-slot-ge-SLOTS : goal.returns-then-slot-ge-SLOTS
+returns-then-slot-ge-SLOTS c =
     let marks = c.args.marks.now in
     sym (get_or_past (live_of base marks) c.args.slot.0 false (omega (arith, (sized base [] [] marks).live, c.if-slot-ge-SLOTS.true)))

@@ -7,7 +7,7 @@ use Rattle.tables.specs.Views.{objects_of}
 use Rattle.tables.proofs.Viewing.{sized}
 use Rattle.pump.proofs.looks.object.Goals as goal
 
-pub returns_then_number_ge_objects : goal.returns_then_number_ge_objects
-returns_then_number_ge_objects c =
+pub returns-then-number-ge-OBJECTS : goal.returns-then-number-ge-OBJECTS
+returns-then-number-ge-OBJECTS c =
     let words = c.args.words.now in
     sym (get_or_past (objects_of base words) c.args.number.0 no_object (omega (arith, (sized base words [] []).objects, c.if-number-ge-OBJECTS.true)))

@@ -3,13 +3,13 @@ use Rattle.tables.specs.Views.{view}
 use Rattle.step_end.proofs.Entered.{enters_first, next_inside, enters_on}
 use Rattle.step_end.proofs.writing.entries.Goals as goal
 
-pub loop_o_init : goal.loop_o_init
-loop_o_init c =
+pub loop-o-init : goal.loop-o-init
+loop-o-init c =
     let a = c.args in
     enters_first a.size (view a.size a.words.now a.bytes.now a.marks.now) a.s a.buf.now c.requires.marks_in_bounds
 
-pub entry_at_requires : goal.entry_at_requires
-entry_at_requires c =
+pub entry-at-requires : goal.entry-at-requires
+entry-at-requires c =
     let a = c.args in (
       omega arith,
       omega arith,
@@ -17,8 +17,8 @@ entry_at_requires c =
           c.loop-o-test.true c.loop-o.invariant c.pair_at.result c.pair_at.ensures,
     )
 
-pub loop_o_preserved : goal.loop_o_preserved
-loop_o_preserved c =
+pub loop-o-preserved : goal.loop-o-preserved
+loop-o-preserved c =
     let a = c.args in
     enters_on a.size (view a.size a.words.now a.bytes.now a.marks.now) a.s c.loop-o.o c.loop-o.at a.buf.now c.loop-o.buf
     c.loop-o-test.true c.loop-o.invariant c.pair_at.result c.entry-at.result _ c.pair_at.ensures c.entry-at.ensures.0 c.entry-at.ensures.1

@@ -5,11 +5,11 @@ use Rattle.tables.specs.Views.{mark}
 use Rattle.tables.proofs.MarkWalks.{doomed_seen}
 use Rattle.tables.proofs.columns.doomed.Goals as goal
 
-pub loop_o_init : goal.loop_o_init
-loop_o_init c = (search rules, sym (any_zero _))
+pub loop-o-init : goal.loop-o-init
+loop-o-init c = (search rules, sym (any_zero _))
 
-pub loop_o_preserved : goal.loop_o_preserved
-loop_o_preserved c =
+pub loop-o-preserved : goal.loop-o-preserved
+loop-o-preserved c =
     let set : ℕ → Bool = λ j. mark c.args.marks.now (c.spoiled-from.result + j) in
     (search rules, c.either-found.ensures ∙ ap (λ (d : Bool). d || set c.loop-o.o) c.loop-o.invariant.1 ∙ sym (any_next set c.loop-o.o))
 

@@ -6,8 +6,8 @@ use Rattle.tables.proofs.Products.{pairs_few}
 use Rattle.tables.proofs.MarkWalks.{spoils_on}
 use Rattle.tables.proofs.columns.spoil_callers.Goals as goal
 
-pub loop_r_init : goal.loop_r_init
-loop_r_init c =
+pub loop-r-init : goal.loop-r-init
+loop-r-init c =
     let a = c.args in
     record {
       within = c.requires.2;
@@ -19,7 +19,7 @@ loop_r_init c =
       become = (c.requires.0, λ w b. sym (each_zero (λ r u. spoil_caller a.size a.o r u) (view a.size w b a.marks.now)));
     }
 
-pub loop_r_preserved : goal.loop_r_preserved
-loop_r_preserved c =
+pub loop-r-preserved : goal.loop-r-preserved
+loop-r-preserved c =
     spoils_on c.args.size c.args.o c.args.asked c.loop-r.r c.loop-r.called c.loop-r.spoiled c.args.marks.now c.loop-r.marks c.loop-r.invariant
     c.loop-r-test.true c.spoil.result c.spoil.ensures

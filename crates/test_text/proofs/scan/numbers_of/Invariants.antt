@@ -2,8 +2,8 @@
 use Rattle.std.proofs.Common.{◌-◌, ◌≤◌}
 use Rattle.test_text.proofs.scan.numbers_of.Given as goal
 
-abbrev pub invariant_loop_at : goal.invariant_loop_at
-invariant_loop_at l = l.at ≤ l.end
+abbrev pub invariant-loop-at : goal.invariant-loop-at
+invariant-loop-at l = l.at ≤ l.end
 
-abbrev pub decreases_loop_at : goal.decreases_loop_at
-decreases_loop_at l = l.end - l.at
+abbrev pub decreases-loop-at : goal.decreases-loop-at
+decreases-loop-at l = l.end - l.at

@@ -1,5 +1,5 @@
 -- Each turn leaves fewer of the lines that a page may have.
 use Rattle.test_vectors.proofs.page.vectors.Given as goal
 
-abbrev pub decreases_loop_left : goal.decreases_loop_left
-decreases_loop_left l = l.left
+abbrev pub decreases-loop-left : goal.decreases-loop-left
+decreases-loop-left l = l.left
