@@ -7,13 +7,13 @@ use Rattle.bench_lines.proofs.Line.number.Goals as goal
 
 pub byte-line-requires-in-loop-rest : goal.byte-line-requires-in-loop-rest
 byte-line-requires-in-loop-rest c =
-    let counted = digit_counted c.loop-rest.rest c.loop-rest-test.true c.loop-rest.invariant.0 in
+    let counted = digit_counted c.loop-rest.rest (omega arith) c.loop-rest.invariant.0 in
     (omega arith, c.loop-rest.invariant.4)
 
 pub loop-rest-preserved : goal.loop-rest-preserved
 loop-rest-preserved c =
     let rest = c.loop-rest.rest in
-    let some : 0 < rest = c.loop-rest-test.true in
+    let some : 0 < rest = omega arith in
     let counted = digit_counted rest some c.loop-rest.invariant.0 in
     let digit = ap (λ (d : ℕ). d ∷ made c.loop-rest.line) c.digit-in-loop-rest.ensures in (
       omega arith,
