@@ -1,9 +1,12 @@
 -- The number of each refusal, and what an answer tells: a number and a value.
-use Rattle.std.specs.Prelude.{ℕ}
+use Rattle.std.specs.Prelude.{ℕ, Result, Ok, Err}
 use Rattle.answers.specs.declared.Refusal.{Refusal}
 use Rattle.answers.specs.declared.Refusal.TheVariants.{BadSlot, BadObject, BadList, Busy, Idle, NotDeclared, BadCall, Released, Doomed, Wait, NoRoom, BadRecord}
-use Rattle.answers.specs.declared.Answer.{Answer}
-use Rattle.answers.specs.declared.Answer.TheVariants.{Accepted, Refused}
+use Rattle.answers.specs.declared.Reply.{Reply}
+
+-- R11: accepted with a value, or refused
+abbrev pub Answer : Type 0
+Answer = Result ℕ Refusal
 
 -- R20: the numbers 1 to 12
 abbrev pub number_of : Refusal → ℕ
@@ -20,11 +23,6 @@ number_of Wait = 10
 number_of NoRoom = 11
 number_of BadRecord = 12
 
--- R11: what the caller sees of an answer
-pub record Reply : Type 0 where
-  pub number : ℕ
-  pub value : ℕ
-
 -- R20: 0 where nothing refuses
 abbrev pub accepted : ℕ → Reply
 accepted v = record { number = 0; value = v }
@@ -34,5 +32,5 @@ abbrev pub refused : Refusal → Reply
 refused r = record { number = number_of r; value = 0 }
 
 abbrev pub reply_of : Answer → Reply
-reply_of (Accepted v) = accepted v
-reply_of (Refused r) = refused r
+reply_of (Ok v) = accepted v
+reply_of (Err r) = refused r

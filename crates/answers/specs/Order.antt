@@ -1,5 +1,5 @@
 -- R19: rules are tried one after the other, and the first that holds refuses.
-use Rattle.std.specs.Prelude.{Bool, true, false, List, [], ◌∷◌}
+use Rattle.std.specs.Prelude.{Bool, true, false, List, [], ◌∷◌, Result, Ok, Err}
 use Rattle.answers.specs.declared.Refusal.{Refusal}
 
 -- the first of two where the test holds, else the second
@@ -16,6 +16,16 @@ pub record Rule : Type 0 where
 abbrev pub decide : {A : Type 0} → List Rule → (Refusal → A) → A → A
 decide [] refused accepted = accepted
 decide (rule ∷ rules) refused accepted = pick rule.holds (refused rule.refusal) (decide rules refused accepted)
+
+-- R19: nothing, or the refusal of the first rule that holds
+abbrev pub Verdict : Type 0
+Verdict = Result (Unit {0}) Refusal
+
+abbrev pub passes : Verdict
+passes = Ok tt
+
+abbrev pub refuses : Refusal → Verdict
+refuses refusal = Err refusal
 
 infix 68 ◌when◌
 -- a rule as R20 lists it: the refusal, and when it is given

@@ -4,10 +4,10 @@
 ghost use Rattle.std.specs.Prelude.{◌≡◌, ◌||◌};
 ghost use Rattle.answers.specs.Numbers.{number_of, reply_of};
 
-// R20: the names of the numbers 1 to 12, in their order.
-#[derive(Clone, Copy)]
+// R20: the refusals in the order of their numbers.
+#[derive(Clone, Copy, PartialEq, Eq)]
 pub enum Refusal {
-    BadSlot,
+    BadSlot = 1,
     BadObject,
     BadList,
     Busy,
@@ -21,61 +21,39 @@ pub enum Refusal {
     BadRecord,
 }
 
-impl Refusal {
-    pub fn number(self) -> u32
-        ensures { result ≡ number_of self }
-    {
-        match self {
-            Refusal::BadSlot => 1,
-            Refusal::BadObject => 2,
-            Refusal::BadList => 3,
-            Refusal::Busy => 4,
-            Refusal::Idle => 5,
-            Refusal::NotDeclared => 6,
-            Refusal::BadCall => 7,
-            Refusal::Released => 8,
-            Refusal::Doomed => 9,
-            Refusal::Wait => 10,
-            Refusal::NoRoom => 11,
-            Refusal::BadRecord => 12,
-        }
+impl From<Refusal> for u32 {
+    ghost from_gives = { λ refusal number. number ≡ number_of refusal };
+
+    fn from(refusal: Refusal) -> u32 {
+        refusal as u32
     }
 }
 
 // R11: an event or a writer is accepted with a value, or refused.
-#[derive(Clone, Copy)]
-pub enum Answer {
-    Accepted(u32),
-    Refused(Refusal),
-}
-
-impl Answer {
-    // R20: 0 where nothing refuses.
-    pub fn number(self) -> u32
-        ensures { result ≡ (reply_of self).number }
-    {
-        match self {
-            Answer::Accepted(_) => 0,
-            Answer::Refused(refusal) => refusal.number(),
-        }
-    }
-
-    // R11: 0 beside every refusal.
-    pub fn value(self) -> u32
-        ensures { result ≡ (reply_of self).value }
-    {
-        match self {
-            Answer::Accepted(value) => value,
-            Answer::Refused(_) => 0,
-        }
-    }
-}
+pub type Answer = Result<u32, Refusal>;
 
 // R19: no rule holds, or the first that does refuses.
-#[derive(Clone, Copy)]
-pub enum Verdict {
-    Passes,
-    Refuses(Refusal),
+pub type Verdict = Result<(), Refusal>;
+
+// What a caller sees of an answer: 0 is the number where nothing refuses (R20), and the value beside every refusal (R11).
+#[derive(Clone, Copy, PartialEq, Eq)]
+pub struct Reply {
+    pub number: u32,
+    pub value: u32,
+}
+
+impl From<Answer> for Reply {
+    ghost from_gives = { λ answer reply. reply ≡ reply_of answer };
+
+    fn from(answer: Answer) -> Reply {
+        match answer {
+            Ok(value) => Reply { number: 0, value },
+            Err(refusal) => Reply {
+                number: refusal.into(),
+                value: 0,
+            },
+        }
+    }
 }
 
 // a or b, with no branch for a caller's loop to join.

@@ -1,4 +1,5 @@
 -- A line made from its end on, and put into a buffer.
+use Rattle.std.specs.Prelude.{Ok, Err}
 use Prim.Native.Nat.{ℕ, suc, ◌+◌, ◌-◌, ◌<◌, ◌≤◌}
 use mathlib.Core.List.{List, [], ◌∷◌, ◌++◌}
 use mathlib.Core.Path.{◌≡◌, refl, ap, ◌∙◌}
@@ -9,10 +10,8 @@ use lib.Dec.{ltb}
 use lib.ListN.{length, take, drop, set, take-append-drop}
 use lib.Seq.{length-take-le, set_split, drop_at}
 use borrow.Author.Tests.{lt-ltb, le-ltb, ltb-false}
-use Rattle.answers.specs.Numbers.{reply_of}
+use Rattle.answers.specs.Numbers.{reply_of, Answer}
 use Rattle.answers.specs.Order.{pick}
-use Rattle.answers.specs.declared.Answer.{Answer}
-use Rattle.answers.specs.declared.Answer.TheVariants.{Accepted, Refused}
 use Rattle.answers.specs.declared.Refusal.TheVariants.{BadSlot, BadObject, BadList, Busy, Idle, NotDeclared, BadCall, Released, Doomed, Wait, NoRoom, BadRecord}
 use Rattle.bench_lines.specs.Buffers.{lent, put_at}
 
@@ -53,16 +52,16 @@ nothing_put buffer at = go (ltb (length buffer) (at + 0))
 
 -- the numbers of the table have two digits
 pub two_digits : (a : Answer) → (reply_of a).number < 100
-two_digits (Accepted v) = omega arith
-two_digits (Refused BadSlot) = omega arith
-two_digits (Refused BadObject) = omega arith
-two_digits (Refused BadList) = omega arith
-two_digits (Refused Busy) = omega arith
-two_digits (Refused Idle) = omega arith
-two_digits (Refused NotDeclared) = omega arith
-two_digits (Refused BadCall) = omega arith
-two_digits (Refused Released) = omega arith
-two_digits (Refused Doomed) = omega arith
-two_digits (Refused Wait) = omega arith
-two_digits (Refused NoRoom) = omega arith
-two_digits (Refused BadRecord) = omega arith
+two_digits (Ok v) = omega arith
+two_digits (Err BadSlot) = omega arith
+two_digits (Err BadObject) = omega arith
+two_digits (Err BadList) = omega arith
+two_digits (Err Busy) = omega arith
+two_digits (Err Idle) = omega arith
+two_digits (Err NotDeclared) = omega arith
+two_digits (Err BadCall) = omega arith
+two_digits (Err Released) = omega arith
+two_digits (Err Doomed) = omega arith
+two_digits (Err Wait) = omega arith
+two_digits (Err NoRoom) = omega arith
+two_digits (Err BadRecord) = omega arith

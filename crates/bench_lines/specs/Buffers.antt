@@ -1,6 +1,6 @@
 -- What is done with a lent buffer: text is put at a place of it, or what is left of it moves to the front.
 use Rattle.std.specs.Prelude.{ℕ, ◌+◌, List, ◌++◌, length, take, drop, ltb}
-use Rattle.answers.specs.Numbers.{Reply}
+use Rattle.answers.specs.declared.Reply.{Reply}
 use Rattle.answers.specs.Order.{pick}
 use Rattle.bench_lines.specs.Lines.{line_of}
 

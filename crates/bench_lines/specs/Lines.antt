@@ -1,6 +1,6 @@
 -- R40: a line, as bytes of text.
 use Rattle.std.specs.Prelude.{ℕ, zero, suc, ◌+◌, ◌/◌, ◌%◌, List, [], ◌∷◌, ◌++◌, eqb}
-use Rattle.answers.specs.Numbers.{Reply}
+use Rattle.answers.specs.declared.Reply.{Reply}
 use Rattle.answers.specs.Order.{pick}
 
 -- R40: the last digit of a number

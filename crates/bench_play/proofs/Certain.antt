@@ -1,4 +1,6 @@
 -- No byte behind a piece changes what is read in front of it, where the record there is certain to be whole.
+use Rattle.record_layout.specs.Reading.{read_as, length_field, kind_field, frame_rules, body, reading_of, reading, list_in, listing, Reading}
+use Rattle.std.specs.Prelude.{Err, Ok}
 use Rattle.std.proofs.Common.{◌≡◌, ℕ, ◌+◌, ◌-◌, ◌<◌, ◌≤◌, Bool, true, false, ◌&&◌, ◌||◌, ltb, leb, List, [], ◌++◌, length, take, drop, sym, refl, ap, ◌∙◌, append-nil, arith, length-append, length-drop, ltb-false, le-ltb, lt-ltb, le-leb, leb-true}
 use lib.ListN.{get_or-append}
 use lib.Seq.{take-append-le, drop-append-le}
@@ -9,8 +11,6 @@ use Rattle.answers.specs.declared.Refusal.TheVariants.{BadRecord}
 use Rattle.counters.specs.Sizes.{Size, base}
 use Rattle.record_layout.specs.Bytes.{half_of}
 use Rattle.record_layout.specs.Kinds.{kind_of, body_limit}
-use Rattle.record_layout.specs.Reading.{length_field, kind_field, frame_rules, body, reading_of, reading, list_in, listing}
-use Rattle.record_layout.specs.declared.fields.Reading.{Reading}
 use Rattle.record_layout.proofs.WriteBack.{list_inside, taken_inside}
 use Rattle.bench_records.specs.Records.{first_read, next_read}
 use Rattle.bench_play.specs.Bench.{Stage, answer_at}
@@ -76,19 +76,19 @@ module _ (z : Size) (piece rest : List ℕ) (enough : Enough z piece) where
 
   reading_same : reading z s ≡ reading z piece
   reading_same =
-      decide_same Reading.Refused (reading_of z (kind_of (kind_field s)) (body z s)) (reading_of z (kind_of (kind_field piece)) (body z piece))
+      decide_same Err (reading_of z (kind_of (kind_field s)) (body z s)) (reading_of z (kind_of (kind_field piece)) (body z piece))
       (λ short i. reading_of z (kind_of (kind_same i)) (body_same i))
 
   list_same : listing z s ≡ listing z piece
   list_same = ap (λ (read : Reading). list_in read s) reading_same ∙ go (reading z piece) refl
     where
       go : (read : Reading) → reading z piece ≡ read → list_in read s ≡ list_in read piece
-      go (Reading.Record fields at taken) e =
-          let there : at ≤ taken = list_inside z piece fields at taken e in
-          let inside : taken ≤ length piece = taken_inside z piece fields at taken e in
-          ap (take (taken - at)) (drop-append-le at piece rest (omega arith))
-          ∙ take-append-le (taken - at) (drop at piece) rest (omega (arith, length-drop at piece))
-      go (Reading.Refused refusal) e = refl
+      go (Ok read) e =
+          let there : read.list ≤ read.taken = list_inside z piece read.fields read.list read.taken e in
+          let inside : read.taken ≤ length piece = taken_inside z piece read.fields read.list read.taken e in
+          ap (take (read.taken - read.list)) (drop-append-le read.list piece rest (omega arith))
+          ∙ take-append-le (read.taken - read.list) (drop read.list piece) rest (omega (arith, length-drop read.list piece))
+      go (Err refusal) e = refl
 
   prints_same : ltb 0 (length s) ≡ ltb 0 (length piece)
   prints_same = lt-ltb 0 (length s) (omega (arith, also_enough.framed)) ∙ sym (lt-ltb 0 (length piece) (omega (arith, framed)))

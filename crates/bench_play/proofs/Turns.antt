@@ -1,13 +1,13 @@
 -- Records played one after the other: each takes bytes or stops the program, so that as many turns as there are bytes, and one, are all of them.
+use Rattle.record_layout.specs.Reading.{read_as, reading, listing, Reading}
+use Rattle.std.specs.Prelude.{Err, Ok}
 use Rattle.std.proofs.Common.{◌≡◌, ℕ, zero, suc, ◌+◌, ◌<◌, ◌≤◌, Bool, true, false, List, length, drop, sym, refl, ap, ◌∙◌, arith, length-drop}
 use Rattle.answers.specs.Order.{pick}
 use Rattle.counters.specs.Sizes.{base}
-use Rattle.record_layout.specs.Reading.{reading, listing}
 use Rattle.record_layout.specs.declared.fields.Fields.{Fields}
-use Rattle.record_layout.specs.declared.fields.Reading.{Reading}
 use Rattle.record_layout.proofs.WriteBack.{some_taken}
 use Rattle.rules.specs.Tables.{State}
-use Rattle.bench_records.specs.Records.{Answering, taken_by, stops_at, first_read, first_step, bench_step}
+use Rattle.bench_records.specs.Records.{Answering, taken_by, stops_at, first_read, first_step, bench_step, first_fields}
 use Rattle.bench_records.proofs.Taking.{taken_inside, first_inside}
 use Rattle.bench_play.specs.Bench.{Stage, answer_at, printed_for, stage_behind, Playing, not_played, played_before, played_while, all_played}
 
@@ -23,17 +23,21 @@ step_advances : (t : State) (bytes : List ℕ) → Advances (bench_step base t b
 step_advances t bytes = record { takes = go (reading base bytes) refl; inside = taken_inside base bytes }
   where
     go : (read : Reading) → reading base bytes ≡ read → stops_at read ≡ false → 0 < taken_by read
-    go (Reading.Record fields at taken) e going = some_taken base bytes fields at taken e
-    go (Reading.Refused refusal) e going = clash going
+    go (Ok read) e going = some_taken base bytes read.fields read.list read.taken e
+    go (Err refusal) e going = clash going
 
 first_advances : (bytes : List ℕ) → Advances (first_step base bytes) bytes
 first_advances bytes = record { takes = go (reading base bytes) refl; inside = first_inside base bytes }
   where
+    opens : (fields : Fields) (at taken : ℕ) → reading base bytes ≡ read_as fields at taken
+        → (first_fields base fields (listing base bytes) taken).stops ≡ false → 0 < (first_fields base fields (listing base bytes) taken).taken
+    opens (Fields.Fresh first) at taken e going = some_taken base bytes (Fields.Fresh first) at taken e
+    opens (Fields.Event event) at taken e going = clash going
+    opens (Fields.Ended tick slot rollback) at taken e going = clash going
+
     go : (read : Reading) → reading base bytes ≡ read → (first_read base read (listing base bytes)).stops ≡ false → 0 < (first_read base read (listing base bytes)).taken
-    go (Reading.Record (Fields.Fresh first) at taken) e going = some_taken base bytes (Fields.Fresh first) at taken e
-    go (Reading.Record (Fields.Event event) at taken) e going = clash going
-    go (Reading.Record (Fields.Ended tick slot rollback) at taken) e going = clash going
-    go (Reading.Refused refusal) e going = clash going
+    go (Ok read) e going = opens read.fields read.list read.taken e going
+    go (Err refusal) e going = clash going
 
 pub answer_advances : (stage : Stage) (bytes : List ℕ) → Advances (answer_at base stage bytes) bytes
 answer_advances stage bytes = go stage.begun

@@ -1,14 +1,14 @@
 -- R39 to R43, record by record: what the first record gives, and what each further one gives.
-use Rattle.std.specs.Prelude.{ℕ, zero, suc, Bool, true, false, not, List, [], ◌∷◌, length, drop, replicate, ltb}
-use Rattle.answers.specs.Numbers.{Reply, reply_of, accepted, refused}
+use Rattle.record_layout.specs.Reading.{read_as, reading, listing, Reading}
+use Rattle.std.specs.Prelude.{ℕ, zero, suc, Bool, true, false, not, List, [], ◌∷◌, length, drop, replicate, ltb, Err, Ok}
+use Rattle.answers.specs.Numbers.{reply_of, accepted, refused}
+use Rattle.answers.specs.declared.Reply.{Reply}
 use Rattle.answers.specs.declared.Refusal.{Refusal}
 use Rattle.answers.specs.declared.Refusal.TheVariants.{BadRecord}
 use Rattle.counters.specs.Sizes.{Size}
 use Rattle.counters.specs.declared.Version.{Version}
 use Rattle.record_layout.specs.Bytes.{word_of}
-use Rattle.record_layout.specs.Reading.{reading, listing}
 use Rattle.record_layout.specs.declared.fields.Fields.{Fields}
-use Rattle.record_layout.specs.declared.fields.Reading.{Reading}
 use Rattle.rules.specs.Tables.{State, fresh_tables}
 use Rattle.rules.specs.Steps.{Outcome, read_step}
 use Rattle.bench_records.specs.declared.Answered.{Answered}
@@ -44,8 +44,8 @@ first_fields z (Fields.Event event) list taken = not_fresh z BadRecord
 first_fields z (Fields.Ended tick slot rollback) list taken = not_fresh z BadRecord
 
 abbrev pub first_read : Size → Reading → List ℕ → Answering
-first_read z (Reading.Record fields at taken) list = first_fields z fields list taken
-first_read z (Reading.Refused refusal) list = not_fresh z refusal
+first_read z (Ok read) list = first_fields z read.fields list read.taken
+first_read z (Err refusal) list = not_fresh z refusal
 
 abbrev pub first_step : Size → List ℕ → Answering
 first_step z bytes = first_read z (reading z bytes) (listing z bytes)
@@ -57,13 +57,13 @@ carries_event (Fields.Event event) = true
 carries_event (Fields.Ended tick slot rollback) = false
 
 abbrev pub stops_at : Reading → Bool
-stops_at (Reading.Record fields at taken) = not (carries_event fields)
-stops_at (Reading.Refused refusal) = true
+stops_at (Ok read) = not (carries_event read.fields)
+stops_at (Err refusal) = true
 
 -- no bytes are taken where there is no record
 abbrev pub taken_by : Reading → ℕ
-taken_by (Reading.Record fields at taken) = taken
-taken_by (Reading.Refused refusal) = 0
+taken_by (Ok read) = read.taken
+taken_by (Err refusal) = 0
 
 -- R42: the buffer that each end is offered
 abbrev pub end_buffer : List ℕ

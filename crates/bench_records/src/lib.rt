@@ -67,7 +67,7 @@ fn fresh(
     let given = records::words(list);
     pump::fresh(words, counts, marks, first, &given);
     Answered {
-        answer: Answer::Accepted(0),
+        answer: Ok(0),
         prints: false,
         stops: false,
         taken,
@@ -86,7 +86,7 @@ fn not_fresh(
     let zeros = [0u32; 24];
     pump::fresh(words, counts, marks, Version(0), &zeros);
     Answered {
-        answer: Answer::Refused(refusal),
+        answer: Err(refusal),
         prints: true,
         stops: true,
         taken: 0,

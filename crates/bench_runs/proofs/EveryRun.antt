@@ -9,9 +9,8 @@ use Rattle.counters.specs.Sizes.{base}
 use Rattle.counters.specs.Versions.{turnover}
 use Rattle.counters.specs.declared.Version.{Version}
 use Rattle.record_layout.specs.Bytes.{word_of, AreBytes}
-use Rattle.record_layout.specs.Reading.{length_field, body, listing}
+use Rattle.record_layout.specs.Reading.{length_field, body, listing, Reading}
 use Rattle.record_layout.specs.declared.fields.Fields.{Fields}
-use Rattle.record_layout.specs.declared.fields.Reading.{Reading}
 use Rattle.record_layout.proofs.Fronts.{bytes_drop, bytes_take}
 use Rattle.record_layout.proofs.WriteBack.{record_read_lem, body_there}
 use Rattle.rules.specs.Tables.{State, fresh_tables}

@@ -1,11 +1,10 @@
 -- The bench's own path: from the fresh record that its input begins with, the events that it hands on, turn by turn, and what it leaves.
+use Rattle.record_layout.specs.Reading.{read_as, reading, listing, Reading}
 use Rattle.std.specs.Prelude.{ℕ, zero, suc, ◌+◌, ◌%◌, Bool, not, ◌&&◌, List, [], ◌∷◌, ◌++◌, map, ◌≡◌, ltb, length, drop}
-use Rattle.answers.specs.Numbers.{Reply}
+use Rattle.answers.specs.declared.Reply.{Reply}
 use Rattle.answers.specs.Order.{pick}
 use Rattle.counters.specs.Sizes.{base}
-use Rattle.record_layout.specs.Reading.{reading, listing}
 use Rattle.record_layout.specs.declared.fields.Fields.{Fields}
-use Rattle.record_layout.specs.declared.fields.Reading.{Reading}
 use Rattle.rules.specs.Tables.{State}
 use Rattle.rules.specs.Events.{Handed}
 use Rattle.runs.specs.Runs.{Run, run_of}
@@ -60,7 +59,7 @@ played_in turns bytes = played_while base until_stopped (turns + 1) (at_first ba
 pub record Begins (bytes words : List ℕ) (first : ℕ) : Type 0 where
   pub at : ℕ
   pub taken : ℕ
-  pub fresh : reading base bytes ≡ Reading.Record (Fields.Fresh (record { 0 = first })) at taken
+  pub fresh : reading base bytes ≡ read_as (Fields.Fresh (record { 0 = first })) at taken
   pub words_are : words_of base.objects (listing base bytes) ≡ words
 
 -- what the bench leaves: its own tables, and the history of the events that it handed on

@@ -1,12 +1,12 @@
 -- A chain of the machine's steps from its own fresh gives the rules' run, so what holds after every run holds of what the code returns.
+use Rattle.record_layout.specs.Reading.{read_as, reading, listing, Reading}
+use Rattle.std.specs.Prelude.{Err, Ok}
 use Prim.Native.Nat.{ℕ, ◌<◌}
 use mathlib.Core.List.{List, [], ◌∷◌, map}
 use mathlib.Core.Path.{◌≡◌, refl, sym, ap, subst, ◌∙◌}
 use lib.ListN.{length}
 use Rattle.counters.specs.Sizes.{base}
 use Rattle.counters.specs.Versions.{turnover}
-use Rattle.record_layout.specs.Reading.{reading, listing}
-use Rattle.record_layout.specs.declared.fields.Reading.{Reading}
 use Rattle.record_read.proofs.Refusing.{only_bad_record}
 use Rattle.rules.specs.Tables.{State}
 use Rattle.rules.specs.Steps.{Outcome, unchanged, beside, read_step, record_step}
@@ -67,8 +67,8 @@ record_is_event t handed = go (reading base handed.bytes) refl
     go : (found : Reading) → reading base handed.bytes ≡ found
         → read_step base t found (listing base handed.bytes) handed.buffer
         ≡ outcome_of base t (handed_read found (listing base handed.bytes) handed.buffer)
-    go (Reading.Record fields place taken) e = refl
-    go (Reading.Refused refusal) e = ap (λ x. beside handed.buffer (unchanged t x)) (only_bad_record base handed.bytes refusal e)
+    go (Ok read) e = refl
+    go (Err refusal) e = ap (λ x. beside handed.buffer (unchanged t x)) (only_bad_record base handed.bytes refusal e)
 
 pub chained_records : (t : Tables) (records : List HandedBytes) (given : List Given) → ChainedRecords t records given
     → Chained t (map handed_of records) given

@@ -3,7 +3,7 @@ use Prim.Native.Nat.{ℕ}
 use mathlib.Core.Bool.{Bool}
 use mathlib.Core.List.{List}
 use mathlib.Core.Path.{◌≡◌}
-use Rattle.answers.specs.declared.Answer.{Answer}
+use Rattle.answers.specs.Numbers.{Answer}
 use Rattle.counters.specs.Sizes.{base}
 use Rattle.record_layout.specs.declared.fields.Fields.{Fields}
 use Rattle.machine.specs.declared.Tables.{Tables}

@@ -1,10 +1,9 @@
 -- A chain of the machine's steps over what is handed in, from its own fresh: each step goes in with the tables that the one before returned.
-use Rattle.std.specs.Prelude.{ℕ, List, [], ◌∷◌, map}
+use Rattle.record_layout.specs.Reading.{read_as, reading, listing, Reading}
+use Rattle.std.specs.Prelude.{ℕ, List, [], ◌∷◌, map, Err, Ok}
 use Rattle.answers.specs.Numbers.{reply_of}
 use Rattle.counters.specs.Sizes.{Size, base}
-use Rattle.record_layout.specs.Reading.{reading, listing}
 use Rattle.record_layout.specs.declared.fields.Fields.{Fields}
-use Rattle.record_layout.specs.declared.fields.Reading.{Reading}
 use Rattle.rules.specs.Tables.{State}
 use Rattle.rules.specs.Steps.{Outcome}
 use Rattle.rules.specs.Events.{Handed, outcome_of}
@@ -66,8 +65,8 @@ pub record HandedBytes : Type 0 where
 
 -- the event that is read; bytes that are no record are refused as a fresh record is, which is no event
 abbrev pub handed_read : Reading → List ℕ → List ℕ → Handed
-handed_read (Reading.Record fields place taken) list buffer = record { fields = fields; list = list; buffer = buffer }
-handed_read (Reading.Refused refusal) list buffer = record { fields = Fields.Fresh (record { 0 = 0 }); list = list; buffer = buffer }
+handed_read (Ok read) list buffer = record { fields = read.fields; list = list; buffer = buffer }
+handed_read (Err refusal) list buffer = record { fields = Fields.Fresh (record { 0 = 0 }); list = list; buffer = buffer }
 
 abbrev pub handed_of : HandedBytes → Handed
 handed_of handed = handed_read (reading base handed.bytes) (listing base handed.bytes) handed.buffer

@@ -5,9 +5,9 @@ use mathlib.Core.Logic.{◌⊎◌, inl, inr}
 use mathlib.Core.Path.{◌≡◌, sym, ap, ◌∙◌}
 use lib.ListN.{length}
 use Rattle.answers.proofs.Deciding.{Accepts, OneHolds, decided}
-use Rattle.answers.specs.Numbers.{Reply, reply_of, accepted}
+use Rattle.answers.specs.Numbers.{reply_of, accepted, Answer}
+use Rattle.answers.specs.declared.Reply.{Reply}
 use Rattle.answers.specs.Order.{Rule, decide}
-use Rattle.answers.specs.declared.Answer.{Answer}
 use Rattle.counters.specs.Sizes.{base}
 use Rattle.record_layout.specs.Declarations.{declarations_of}
 use Rattle.rules.specs.Tables.{State, live_at, pair_at, object_at}

@@ -1,6 +1,7 @@
 // What the library shows beside events: the order of two records, an object, a pair, and whether marks are right.
 ghost use Rattle.std.specs.Prelude.{false, ◌≡◌, ltb, length, get_or};
-ghost use Rattle.answers.specs.Numbers.{Reply, reply_of};
+ghost use Rattle.answers.specs.Numbers.{reply_of};
+ghost use Rattle.answers.specs.declared.Reply.{Reply};
 ghost use Rattle.counters.specs.Sizes.{base};
 ghost use Rattle.record_order.specs.CameFirst.{came_first, code_of, order_of};
 ghost use Rattle.rules.specs.Tables.{no_object};
@@ -30,9 +31,9 @@ fn as_numbers(found: CameFirst) -> Answer
     ensures { reply_of result ≡ order_of found }
 {
     match found {
-        CameFirst::Compared(comparison) => Answer::Accepted(code(comparison)),
-        CameFirst::Unrelated => Answer::Accepted(5),
-        CameFirst::Refused(refusal) => Answer::Refused(refusal),
+        CameFirst::Compared(comparison) => Ok(code(comparison)),
+        CameFirst::Unrelated => Ok(5),
+        CameFirst::Refused(refusal) => Err(refusal),
     }
 }
 

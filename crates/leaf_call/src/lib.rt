@@ -2,9 +2,8 @@
 #![tactic(auto)]
 
 ghost use Rattle.std.specs.Prelude.{◌≡◌};
-ghost use Rattle.answers.specs.Order.{decide};
+ghost use Rattle.answers.specs.Order.{decide, refuses, passes};
 ghost use Rattle.rules.specs.Refusing.{place_rules, call_rules, release_rules, turn_rules};
-ghost use Rattle.answers.specs.declared.Verdict.TheVariants.{Passes, Refuses};
 ghost use Rattle.objects.specs.Places.{count_after, reaches, called_object, called_pair};
 
 use answers::{Refusal, Verdict};
@@ -22,20 +21,16 @@ pub fn call(
     pair: Pair,
     object: Object,
 ) -> Verdict
-    ensures { result ≡ decide (call_rules size slot.0 number.0 kind live doomed pair object) Refuses Passes }
+    ensures { result ≡ decide (call_rules size slot.0 number.0 kind live doomed pair object) refuses passes }
 {
-    match place(size, slot, number, live, pair) {
-        Verdict::Refuses(refusal) => Verdict::Refuses(refusal),
-        Verdict::Passes => {
-            if 4 <= kind {
-                return Verdict::Refuses(Refusal::BadCall);
-            }
-            if doomed {
-                return Verdict::Refuses(Refusal::Doomed);
-            }
-            turn(size, pair, object)
-        }
+    place(size, slot, number, live, pair)?;
+    if 4 <= kind {
+        return Err(Refusal::BadCall);
     }
+    if doomed {
+        return Err(Refusal::Doomed);
+    }
+    turn(size, pair, object)
 }
 
 // R21: 1, 5, 2, 6, 8, 10.
@@ -47,41 +42,39 @@ pub fn release(
     pair: Pair,
     object: Object,
 ) -> Verdict
-    ensures { result ≡ decide (release_rules size slot.0 number.0 live pair object) Refuses Passes }
+    ensures { result ≡ decide (release_rules size slot.0 number.0 live pair object) refuses passes }
 {
-    match place(size, slot, number, live, pair) {
-        Verdict::Refuses(refusal) => Verdict::Refuses(refusal),
-        Verdict::Passes => turn(size, pair, object),
-    }
+    place(size, slot, number, live, pair)?;
+    turn(size, pair, object)
 }
 
 // Whether there is such a pair: 1, 5, 2, 6.
 fn place(size: Size, slot: SlotNo, number: ObjectNo, live: bool, pair: Pair) -> Verdict
-    ensures { result ≡ decide (place_rules size slot.0 number.0 live pair) Refuses Passes }
+    ensures { result ≡ decide (place_rules size slot.0 number.0 live pair) refuses passes }
 {
     if size.slots <= slot.0 {
-        return Verdict::Refuses(Refusal::BadSlot);
+        return Err(Refusal::BadSlot);
     }
     if !live {
-        return Verdict::Refuses(Refusal::Idle);
+        return Err(Refusal::Idle);
     }
     if size.objects <= number.0 {
-        return Verdict::Refuses(Refusal::BadObject);
+        return Err(Refusal::BadObject);
     }
     if !pair.declared {
-        return Verdict::Refuses(Refusal::NotDeclared);
+        return Err(Refusal::NotDeclared);
     }
-    Verdict::Passes
+    Ok(())
 }
 
 // Whether it is its turn: 8, 10.
 fn turn(size: Size, pair: Pair, object: Object) -> Verdict
-    ensures { result ≡ decide (turn_rules size pair object) Refuses Passes }
+    ensures { result ≡ decide (turn_rules size pair object) refuses passes }
 {
     match pair.turn(object, size.slots) {
-        Turn::Now => Verdict::Passes,
-        Turn::Wait => Verdict::Refuses(Refusal::Wait),
-        Turn::Released => Verdict::Refuses(Refusal::Released),
+        Turn::Now => Ok(()),
+        Turn::Wait => Err(Refusal::Wait),
+        Turn::Released => Err(Refusal::Released),
     }
 }
 

@@ -2,12 +2,11 @@
 #![tactic(auto)]
 
 ghost use Rattle.std.specs.Prelude.{ℕ, ◌≤◌, [], ◌∷◌, ◌≡◌, length, ◌&&◌};
-ghost use Rattle.answers.specs.Order.{decide, ◌when◌};
+ghost use Rattle.answers.specs.Order.{decide, ◌when◌, refuses, passes};
 ghost use Rattle.answers.specs.declared.Refusal.TheVariants.{Wait, NoRoom};
 ghost use Rattle.rules.specs.Refusing.{misses, end_rules};
 ghost use Rattle.rules.specs.Effects.{entry_of};
 ghost use Rattle.leaf_end.specs.Serving.Standings.{standing_of_none, standing_with};
-ghost use Rattle.answers.specs.declared.Verdict.TheVariants.{Passes, Refuses};
 ghost use Rattle.objects.specs.Places.{restores};
 ghost use Rattle.leaf_end.specs.Serving.Ends.{ended_object, slots_asked};
 
@@ -79,34 +78,34 @@ pub fn verdict(
     standing: Standing,
     short: bool,
 ) -> Verdict
-    ensures { result ≡ decide (end_rules size rollback slot.0 live standing.doomed standing.unmet short) Refuses Passes }
+    ensures { result ≡ decide (end_rules size rollback slot.0 live standing.doomed standing.unmet short) refuses passes }
 {
     if size.slots <= slot.0 {
-        return Verdict::Refuses(Refusal::BadSlot);
+        return Err(Refusal::BadSlot);
     }
     if !live {
-        return Verdict::Refuses(Refusal::Idle);
+        return Err(Refusal::Idle);
     }
     if rollback {
         return last(standing.unmet, short);
     }
     if standing.doomed {
-        return Verdict::Refuses(Refusal::Doomed);
+        return Err(Refusal::Doomed);
     }
     last(standing.unmet, short)
 }
 
 // R21: the last two rules, which both have.
 fn last(unmet: bool, short: bool) -> Verdict
-    ensures { result ≡ decide (Wait when unmet ∷ NoRoom when short ∷ []) Refuses Passes }
+    ensures { result ≡ decide (Wait when unmet ∷ NoRoom when short ∷ []) refuses passes }
 {
     if unmet {
-        return Verdict::Refuses(Refusal::Wait);
+        return Err(Refusal::Wait);
     }
     if short {
-        return Verdict::Refuses(Refusal::NoRoom);
+        return Err(Refusal::NoRoom);
     }
-    Verdict::Passes
+    Ok(())
 }
 
 // R17: whether the end puts the saved word of the pair back.

@@ -11,7 +11,7 @@ use lib.ListN.{length, drop, get_or}
 use Rattle.answers.proofs.Deciding.{Accepts, decided}
 use Rattle.answers.proofs.Deciding as deciding
 use Rattle.answers.specs.Numbers.{accepted}
-use Rattle.answers.specs.Order.{Rule, decide}
+use Rattle.answers.specs.Order.{Rule, decide, Verdict, refuses, passes}
 use Rattle.answers.specs.declared.Refusal.{Refusal}
 use Rattle.counters.specs.Sizes.{Size}
 use Rattle.record_layout.specs.Declarations.{Declaration, declarations_of}
@@ -24,8 +24,6 @@ use Rattle.leaf_start.specs.Serving.Listed.{ListedBelow}
 use Rattle.rules.proofs.Facts.{Rises}
 use Rattle.rules.proofs.Accepted.{StartFits, start_fits}
 use Rattle.answers.proofs.Saying.{when_refuses}
-use Rattle.answers.specs.declared.Verdict.{Verdict}
-use Rattle.answers.specs.declared.Verdict.TheVariants.{Passes, Refuses}
 
 rises_below : (z : Size) (least : ℕ) (declarations : List Declaration) → Rises z least declarations → ListedBelow z.objects declarations
 rises_below z least [] rises = tt
@@ -63,20 +61,20 @@ module _ {z : Size} {s : ℕ} {list : List ℕ} {next : ℕ} {t₀ t : State} (d
   pub declares_all : length list - next ≤ 1 → t ≡ declare_all z s (declarations_of list) t₀
   declares_all none = sym (declaring.declared ∙ ap (λ (l : List Declaration). declare_all z s l t) (declarations_end list next none))
 
-all_pass : (rules : List Rule) → decide rules Refuses Passes ≡ Passes → deciding.NoneHolds rules
+all_pass : (rules : List Rule) → decide rules refuses passes ≡ passes → deciding.NoneHolds rules
 all_pass rules e = go (decided rules)
   where
     go : Accepts rules ⊎ deciding.OneHolds rules → deciding.NoneHolds rules
     go (inl a) = a.passes
     go (inr r) =
-        let clash : ◌≡◌ {A = ℕ} 0 1 = cc (r.gives Refuses Passes) in
+        let clash : ◌≡◌ {A = ℕ} 0 1 = cc (r.gives refuses passes) in
         absurd (omega arith)
 
 -- the verdict on a start in t, by the slot that is looked at, which is the event's where the event's is in range
 pub record Judged (z : Size) (t : State) (slot s : ℕ) (list : List ℕ) (live : Bool) (verdict : Verdict) : Type 0 where
   pub right_slot : slot < z.slots → s ≡ slot
   pub is_live : live ≡ live_at t s
-  pub is_verdict : verdict ≡ decide (start_rules z slot live (length list) (declarations_of list)) Refuses Passes
+  pub is_verdict : verdict ≡ decide (start_rules z slot live (length list) (declarations_of list)) refuses passes
 
 module _ {z : Size} {t : State} {slot s : ℕ} {list : List ℕ} {live : Bool} {verdict : Verdict} (judged : Judged z t slot s list live verdict) where
   abbrev rules : List Rule
@@ -92,10 +90,10 @@ module _ {z : Size} {t : State} {slot s : ℕ} {list : List ℕ} {live : Bool} {
       by_slot true e = rw e
       by_slot false e = rw (judged.is_live, judged.right_slot (leb-false _ _ e))
 
-  pub start_refused : {refusal : Refusal} → verdict ≡ Refuses refusal → unchanged t refusal ≡ start_step z t slot list
+  pub start_refused : {refusal : Refusal} → verdict ≡ refuses refusal → unchanged t refusal ≡ start_step z t slot list
   start_refused {refusal} refuses = sym (when_refuses rules refusal (sym judged.is_verdict ∙ refuses) (unchanged t) (begun slot)) ∙ same_rules
 
-  module _ (passes : verdict ≡ Passes) where
+  module _ (passes : verdict ≡ passes) where
     passed : deciding.NoneHolds rules
     passed = all_pass rules (sym judged.is_verdict ∙ passes)
 

@@ -5,8 +5,7 @@ use mathlib.Core.List.{List}
 use mathlib.Core.Logic.{◌≢◌}
 use mathlib.Core.Path.{◌≡◌, ap, ◌∙◌}
 use Rattle.answers.proofs.Tells.{reply_tells}
-use Rattle.answers.specs.Numbers.{reply_of}
-use Rattle.answers.specs.declared.Answer.{Answer}
+use Rattle.answers.specs.Numbers.{reply_of, Answer}
 use Rattle.counters.specs.Sizes.{base}
 use Rattle.record_layout.specs.declared.fields.Fields.{Fields}
 use Rattle.rules.specs.Steps.{Outcome, fields_step, record_step}

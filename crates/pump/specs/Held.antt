@@ -1,7 +1,6 @@
 -- What the pump's memory holds, as the rules see it, and what a step in place leaves and answers.
 use Rattle.std.specs.Prelude.{ℕ, Bool, List}
-use Rattle.answers.specs.Numbers.{reply_of}
-use Rattle.answers.specs.declared.Answer.{Answer}
+use Rattle.answers.specs.Numbers.{reply_of, Answer}
 use Rattle.counters.specs.Sizes.{base}
 use Rattle.rules.specs.Tables.{State}
 use Rattle.rules.specs.Steps.{Stepping, Outcome}

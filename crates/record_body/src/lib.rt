@@ -13,23 +13,23 @@ mod heads;
 use answers::Refusal;
 use counters::{OBJECTS, SLOTS};
 use record_bytes::{byte, rise};
-use record_layout::fields::{Fields, Reading};
+use record_layout::fields::{Fields, Reading, Record};
 use record_layout::kind::Kind;
 
 pub fn read(kind: Kind, b: &[u8]) -> Reading
     ensures { told_by_reading result ≡ told_by_reading (body_reading base kind b.now) }
 {
     if !length_right(kind, b) {
-        return Reading::Refused(Refusal::BadRecord);
+        return Err(Refusal::BadRecord);
     }
     if !content_right(kind, b) {
-        return Reading::Refused(Refusal::BadRecord);
+        return Err(Refusal::BadRecord);
     }
-    Reading::Record {
+    Ok(Record {
         fields: fields(kind, b),
         list: 4 + kind.shape().head as usize,
         taken: 4 + b.len(),
-    }
+    })
 }
 
 // Whether the body has the length that its kind and its n ask for.

@@ -1,4 +1,5 @@
 -- What reading does with a frame in front of any body, and any bytes behind that.
+use Rattle.std.specs.Prelude.{Err}
 use Prim.Native.Nat.{ℕ, ◌+◌, ◌≤◌, ◌<◌}
 use mathlib.Core.List.{List, [], ◌++◌}
 use mathlib.Core.Path.{◌≡◌, sym, ap, ◌∙◌}
@@ -10,8 +11,7 @@ use Rattle.answers.proofs.Deciding.{NoneHolds, passed}
 use Rattle.counters.specs.Sizes.{Size}
 use Rattle.record_layout.specs.Bytes.{half_bytes}
 use Rattle.record_layout.specs.Kinds.{kind_of, body_limit}
-use Rattle.record_layout.specs.Reading.{length_field, kind_field, frame_rules, body, reading_of, reading}
-use Rattle.record_layout.specs.declared.fields.Reading.{Reading}
+use Rattle.record_layout.specs.Reading.{length_field, kind_field, frame_rules, body, reading_of, reading, Reading}
 use Rattle.record_layout.proofs.LittleEndian.{half_back}
 
 -- R24: the length of the body, the kind, and what stands behind them
@@ -44,5 +44,5 @@ module _ (z : Size) (number : ℕ) (b rest : List ℕ) (short : length b ≤ bod
   -- R29: bytes behind the record do not count, and the reading is that of the body
   pub frame_reading : reading z s ≡ reading_of z (kind_of (kind_field s)) b
   frame_reading =
-      passed (frame_rules z s) Reading.Refused (reading_of z (kind_of (kind_field s)) (body z s)) frame_passes
+      passed (frame_rules z s) Err (reading_of z (kind_of (kind_field s)) (body z s)) frame_passes
       ∙ ap (reading_of z (kind_of (kind_field s))) frame_body

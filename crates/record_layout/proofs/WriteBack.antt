@@ -1,4 +1,7 @@
 -- Whatever reads is, byte for byte, what its fields would write.
+use Rattle.record_layout.specs.declared.fields.Record.{Record}
+use Rattle.record_layout.specs.Reading.{read_as, length_field, kind_field, frame_rules, body, content_right, body_rules, reading_of, reading, list_in, listing, Reading}
+use Rattle.std.specs.Prelude.{Option, Some, None, Err, Ok}
 use Prim.Native.Nat.{ℕ, zero, suc, ◌+◌, ◌-◌, ◌*◌, ◌/◌, ◌≤◌, ◌<◌}
 use mathlib.Core.Bool.{Bool, true, false}
 use mathlib.Core.List.{List, [], ◌∷◌, ◌++◌}
@@ -15,14 +18,10 @@ use Rattle.counters.specs.Sizes.{Size}
 use Rattle.record_layout.specs.Bytes.{AreBytes, half_bytes, word_bytes, word_of}
 use Rattle.record_layout.specs.Kinds.{shape_of, kind_among, kind_of, kinds, items_of, body_length, body_limit}
 use Rattle.record_layout.specs.Fields.{fields_of, kind_of_fields, body_of, list_place, record_of}
-use Rattle.record_layout.specs.Reading.{length_field, kind_field, frame_rules, body, content_right, body_rules, reading_of, reading, list_in, listing}
 use Rattle.record_layout.specs.Writing.{readable}
 use Rattle.record_layout.specs.declared.kind.Kind.{Kind}
 use Rattle.record_layout.specs.declared.kind.Kind.TheVariants.{Fresh, Start, Call, Release, End, Ended}
-use Rattle.record_layout.specs.declared.kind.KindFound.{KindFound}
-use Rattle.record_layout.specs.declared.kind.KindFound.TheVariants.{Known, Unknown}
 use Rattle.record_layout.specs.declared.fields.Fields.{Fields}
-use Rattle.record_layout.specs.declared.fields.Reading.{Reading}
 use Rattle.record_layout.proofs.Checks.{FrameFits, frame_fits, BodyFits, body_fits}
 use Rattle.record_layout.proofs.Fronts.{by_front, bytes_drop, bytes_take, half_front, word_front, behind_front}
 use Rattle.record_layout.proofs.Lengths.{length_body, length_record}
@@ -65,12 +64,12 @@ body_again z (End rollback) b there = asked_again z rollback b (omega arith)
 body_again z (Ended rollback) b there = end_again z rollback b there
 
 -- the number is that of the kind which is found for it
-kind_number : (ks : List Kind) (number : ℕ) (k : Kind) → kind_among ks number ≡ Known k → number ≡ (shape_of k).number
+kind_number : (ks : List Kind) (number : ℕ) (k : Kind) → kind_among ks number ≡ Some k → number ≡ (shape_of k).number
 kind_number [] number k found = let clash : ◌≡◌ {A = ℕ} 0 1 = cc in absurd (omega arith)
 kind_number (j ∷ ks) number k found = go (eqb number (shape_of j).number) refl (kind_number ks number k) found
   where
-    go : (t : Bool) → eqb number (shape_of j).number ≡ t → (kind_among ks number ≡ Known k → number ≡ (shape_of k).number)
-        → pick t (Known j) (kind_among ks number) ≡ Known k → number ≡ (shape_of k).number
+    go : (t : Bool) → eqb number (shape_of j).number ≡ t → (kind_among ks number ≡ Some k → number ≡ (shape_of k).number)
+        → pick t (Some j) (kind_among ks number) ≡ Some k → number ≡ (shape_of k).number
     go true e later found =
         let same : j ≡ k = cc in
         eqb-true number (shape_of j).number e ∙ ap (λ (x : Kind). (shape_of x).number) same
@@ -95,28 +94,34 @@ pub record IsRead (z : Size) (s : List ℕ) (f : Fields) (list taken : ℕ) : Ty
   pub taken_is : taken ≡ 4 + length (body z s)
 
 -- where rules that refuse a reading give a record, they pass
-rules_passed : (rules : List Rule) (r : Reading) (f : Fields) (list taken : ℕ) → decide rules Reading.Refused r ≡ Reading.Record f list taken
-    → NoneHolds rules × (r ≡ Reading.Record f list taken)
+rules_passed : (rules : List Rule) (r : Reading) (f : Fields) (list taken : ℕ) → decide rules Err r ≡ read_as f list taken
+    → NoneHolds rules × (r ≡ read_as f list taken)
 rules_passed rules r f list taken read = go (decided rules)
   where
-    go : Accepts rules ⊎ OneHolds rules → NoneHolds rules × (r ≡ Reading.Record f list taken)
-    go (inl accepts) = (accepts.passes, sym (accepts.gives Reading.Refused r) ∙ read)
-    go (inr refuses) = let clash : ◌≡◌ {A = ℕ} 0 1 = cc (refuses.gives Reading.Refused r) in absurd (omega arith)
+    go : Accepts rules ⊎ OneHolds rules → NoneHolds rules × (r ≡ read_as f list taken)
+    go (inl accepts) = (accepts.passes, sym (accepts.gives Err r) ∙ read)
+    go (inr refuses) = let clash : ◌≡◌ {A = ℕ} 0 1 = cc (refuses.gives Err r) in absurd (omega arith)
 
-pub record_read_lem : (z : Size) (s : List ℕ) (f : Fields) (list taken : ℕ) → reading z s ≡ Reading.Record f list taken → IsRead z s f list taken
+-- the record of a reading, and another where it is refused
+abbrev read_or : Record → Reading → Record
+read_or otherwise (Ok read) = read
+read_or otherwise (Err refusal) = otherwise
+
+pub record_read_lem : (z : Size) (s : List ℕ) (f : Fields) (list taken : ℕ) → reading z s ≡ read_as f list taken → IsRead z s f list taken
 record_read_lem z s f list taken read = go (kind_of (kind_field s)) refl whole.1
   where
-    whole : NoneHolds (frame_rules z s) × (reading_of z (kind_of (kind_field s)) (body z s) ≡ Reading.Record f list taken)
+    whole : NoneHolds (frame_rules z s) × (reading_of z (kind_of (kind_field s)) (body z s) ≡ read_as f list taken)
     whole = rules_passed (frame_rules z s) (reading_of z (kind_of (kind_field s)) (body z s)) f list taken read
 
-    go : (found : KindFound) → kind_of (kind_field s) ≡ found → reading_of z found (body z s) ≡ Reading.Record f list taken → IsRead z s f list taken
-    go Unknown e told = let clash : ◌≡◌ {A = ℕ} 0 1 = cc in absurd (omega arith)
-    go (Known k) e told =
+    go : (found : Option Kind) → kind_of (kind_field s) ≡ found → reading_of z found (body z s) ≡ read_as f list taken → IsRead z s f list taken
+    go None e told = let clash : ◌≡◌ {A = ℕ} 0 1 = cc in absurd (omega arith)
+    go (Some k) e told =
         let b : List ℕ = body z s in
-        let right = rules_passed (body_rules z k b) (Reading.Record (fields_of k b) (list_place k) (4 + length b)) f list taken told in
-        let fields : fields_of k b ≡ f = cc right.1 in
-        let place : list_place k ≡ list = cc right.1 in
-        let ends : 4 + length b ≡ taken = cc right.1 in
+        let right = rules_passed (body_rules z k b) (read_as (fields_of k b) (list_place k) (4 + length b)) f list taken told in
+        let found : Record = record { fields = fields_of k b; list = list_place k; taken = 4 + length b } in
+        let fields : fields_of k b ≡ f = ap (λ (r : Reading). (read_or found r).fields) right.1 in
+        let place : list_place k ≡ list = ap (λ (r : Reading). (read_or found r).list) right.1 in
+        let ends : 4 + length b ≡ taken = ap (λ (r : Reading). (read_or found r).taken) right.1 in
         let same : k ≡ kind_of_fields f = sym (kind_kept k b) ∙ ap kind_of_fields fields in
         record {
           frame_passes = whole.0;
@@ -155,7 +160,7 @@ record_framed : (f : Fields) (list b : List ℕ) (bytes number : ℕ) → body_o
 record_framed f list b bytes number same long kind =
     λ i. framed ((sym long ∙ ap length (sym same) ∙ length_body f list) i) (kind i) (sym same i)
 
-module _ (z : Size) (s : List ℕ) (f : Fields) (list taken : ℕ) (read : reading z s ≡ Reading.Record f list taken) where
+module _ (z : Size) (s : List ℕ) (f : Fields) (list taken : ℕ) (read : reading z s ≡ read_as f list taken) where
   is : IsRead z s f list taken
   is = record_read_lem z s f list taken read
 

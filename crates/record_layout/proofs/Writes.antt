@@ -1,4 +1,5 @@
 -- Writing: which refusal is given, that it leaves every byte, and that what is accepted reads back.
+use Rattle.record_layout.specs.Reading.{read_as, reading, listing, Reading}
 use Prim.Native.Nat.{ℕ, ◌≤◌, ◌<◌}
 use mathlib.Core.Bool.{Bool, true, false}
 use mathlib.Core.List.{List, ◌++◌}
@@ -17,10 +18,8 @@ use Rattle.record_layout.specs.Bytes.{AreBytes}
 use Rattle.record_layout.specs.Kinds.{body_limit}
 use Rattle.record_layout.specs.Fields.{record_of}
 use Rattle.record_layout.specs.Serving.Fitting.{Fit}
-use Rattle.record_layout.specs.Reading.{reading, listing}
 use Rattle.record_layout.specs.Writing.{Written, readable, writing_rules, writing}
 use Rattle.record_layout.specs.declared.fields.Fields.{Fields}
-use Rattle.record_layout.specs.declared.fields.Reading.{Reading}
 use Rattle.record_layout.proofs.ReadBack.{ReadsAs, written_reads_back}
 use Rattle.record_layout.proofs.WriteBack.{read_is_written}
 
@@ -87,7 +86,7 @@ module _ (z : Size) (f : Fields) (list buffer : List ℕ) where
       rw (room_accepted has.0 has.1) (written_reads_back z f list (drop (length (record_of f list)) buffer) small fit has.0)
 
 -- what reads writes again the bytes that it was read from
-pub read_writes_again : (z : Size) (s : List ℕ) (f : Fields) (at taken : ℕ) (buffer : List ℕ) → AreBytes s → reading z s ≡ Reading.Record f at taken
+pub read_writes_again : (z : Size) (s : List ℕ) (f : Fields) (at taken : ℕ) (buffer : List ℕ) → AreBytes s → reading z s ≡ read_as f at taken
     → let n : ℕ = length (record_of f (listing z s)) in
     n ≤ length buffer → writing z f (listing z s) buffer ≡ record { reply = accepted n; buffer = take n s ++ drop n buffer }
 read_writes_again z s f at taken buffer bytes read room =

@@ -1,14 +1,12 @@
 -- R24, R25: of each kind its number, the bytes of its body in front of the list, the bytes of one item of the list, and how the items are
 -- counted. Lengths follow from the number of objects.
-use Rattle.std.specs.Prelude.{ℕ, ◌+◌, ◌-◌, ◌*◌, true, false, List, [], ◌∷◌, eqb}
+use Rattle.std.specs.Prelude.{ℕ, ◌+◌, ◌-◌, ◌*◌, true, false, List, [], ◌∷◌, eqb, Option, Some, None}
 use Rattle.answers.specs.Order.{pick}
 use Rattle.counters.specs.Sizes.{Size}
 use Rattle.record_layout.specs.Bytes.{byte_at}
 use Rattle.record_layout.specs.declared.kind.Kind.{Kind}
 use Rattle.record_layout.specs.declared.kind.Kind.TheVariants.{Fresh, Start, Call, Release, End, Ended}
 use Rattle.record_layout.specs.declared.kind.Shape.{Shape}
-use Rattle.record_layout.specs.declared.kind.KindFound.{KindFound}
-use Rattle.record_layout.specs.declared.kind.KindFound.TheVariants.{Known, Unknown}
 
 abbrev pub shape_of : Kind → Shape
 shape_of Fresh = record { number = 0x0100; head = 4; item = 4; counted = false }
@@ -21,11 +19,11 @@ shape_of (Ended rollback) = record { number = pick rollback 0x0202 0x0201; head 
 abbrev pub kinds : List Kind
 kinds = Fresh ∷ Start ∷ Call ∷ Release ∷ End false ∷ End true ∷ Ended false ∷ Ended true ∷ []
 
-abbrev pub kind_among : List Kind → ℕ → KindFound
-kind_among [] number = Unknown
-kind_among (k ∷ ks) number = pick (eqb number (shape_of k).number) (Known k) (kind_among ks number)
+abbrev pub kind_among : List Kind → ℕ → Option Kind
+kind_among [] number = None
+kind_among (k ∷ ks) number = pick (eqb number (shape_of k).number) (Some k) (kind_among ks number)
 
-abbrev pub kind_of : ℕ → KindFound
+abbrev pub kind_of : ℕ → Option Kind
 kind_of number = kind_among kinds number
 
 -- how many items a body lists: as many as the last byte of its head says, or one for each object

@@ -1,5 +1,8 @@
 -- R28 to R30: the frame and its body, and the first record by its fields or the refusal, the checks in their order.
-use Rattle.std.specs.Prelude.{ℕ, ◌+◌, ◌-◌, Bool, true, not, ◌&&◌, List, [], ◌∷◌, length, take, drop, ltb, eqb}
+use Rattle.record_layout.specs.declared.fields.Fields.{Fields}
+use Rattle.record_layout.specs.declared.fields.Frame.{Frame}
+use Rattle.record_layout.specs.declared.fields.Record.{Record}
+use Rattle.std.specs.Prelude.{ℕ, ◌+◌, ◌-◌, Bool, true, not, ◌&&◌, List, [], ◌∷◌, length, take, drop, ltb, eqb, Option, Some, None, Result, Ok, Err}
 use Rattle.answers.specs.Order.{Rule, decide, ◌when◌}
 use Rattle.answers.specs.declared.Refusal.{Refusal}
 use Rattle.answers.specs.declared.Refusal.TheVariants.{BadRecord}
@@ -10,10 +13,6 @@ use Rattle.record_layout.specs.Entries.{entries_of, rising_from}
 use Rattle.record_layout.specs.Fields.{fields_of, list_place}
 use Rattle.record_layout.specs.declared.kind.Kind.{Kind}
 use Rattle.record_layout.specs.declared.kind.Kind.TheVariants.{Fresh, Start, Call, Release, End, Ended}
-use Rattle.record_layout.specs.declared.kind.KindFound.{KindFound}
-use Rattle.record_layout.specs.declared.kind.KindFound.TheVariants.{Known, Unknown}
-use Rattle.record_layout.specs.declared.fields.Framing.{Framing}
-use Rattle.record_layout.specs.declared.fields.Reading.{Reading}
 
 abbrev pub length_field : List ℕ → ℕ
 length_field s = half_of s
@@ -29,8 +28,15 @@ frame_rules z s =
     ∷ BadRecord when ltb (length s) (4 + length_field s)
     ∷ []
 
+-- a frame that is whole, or the refusal
+abbrev pub Framing : Type 0
+Framing = Result Frame Refusal
+
+abbrev pub framed_as : ℕ → ℕ → Framing
+framed_as length number = Ok (record { length = length; number = number })
+
 abbrev pub framing : Size → List ℕ → Framing
-framing z s = decide (frame_rules z s) Framing.Refused (Framing.Whole (length_field s) (kind_field s))
+framing z s = decide (frame_rules z s) Err (framed_as (length_field s) (kind_field s))
 
 -- R30: the body and its place; where the frame fails, an empty part
 abbrev pub body : Size → List ℕ → List ℕ
@@ -59,30 +65,32 @@ body_rules z k b =
     ∷ BadRecord when not (content_right z k b)
     ∷ []
 
+-- a record by its fields, the place of its list and the bytes that it takes, or the refusal
+abbrev pub Reading : Type 0
+Reading = Result Record Refusal
+
+abbrev pub read_as : Fields → ℕ → ℕ → Reading
+read_as fields list taken = Ok (record { fields = fields; list = list; taken = taken })
+
 abbrev pub body_reading : Size → Kind → List ℕ → Reading
-body_reading z k b = decide (body_rules z k b) Reading.Refused (Reading.Record (fields_of k b) (list_place k) (4 + length b))
+body_reading z k b = decide (body_rules z k b) Err (read_as (fields_of k b) (list_place k) (4 + length b))
 
 -- R28, 4: a kind that is none of the table
-abbrev pub reading_of : Size → KindFound → List ℕ → Reading
-reading_of z (Known k) b = body_reading z k b
-reading_of z Unknown b = Reading.Refused BadRecord
+abbrev pub reading_of : Size → Option Kind → List ℕ → Reading
+reading_of z (Some k) b = body_reading z k b
+reading_of z None b = Err BadRecord
 
 abbrev pub reading : Size → List ℕ → Reading
-reading z s = decide (frame_rules z s) Reading.Refused (reading_of z (kind_of (kind_field s)) (body z s))
+reading z s = decide (frame_rules z s) Err (reading_of z (kind_of (kind_field s)) (body z s))
 
 -- R30: the list that stands beside the fields, and its place; where the reading is refused, an empty part
 abbrev pub list_in : Reading → List ℕ → List ℕ
-list_in (Reading.Record f list taken) s = take (taken - list) (drop list s)
-list_in (Reading.Refused refusal) s = []
+list_in (Ok read) s = take (read.taken - read.list) (drop read.list s)
+list_in (Err refusal) s = []
 
 abbrev pub listing : Size → List ℕ → List ℕ
 listing z s = list_in (reading z s) s
 
 abbrev pub list_at : Reading → ℕ
-list_at (Reading.Record f list taken) = list
-list_at (Reading.Refused refusal) = 0
-
--- R31: what an event as bytes is refused by; a record that is none is refused as one of a kind not wanted
-abbrev pub refusal_of : Reading → Refusal
-refusal_of (Reading.Record f list taken) = BadRecord
-refusal_of (Reading.Refused refusal) = refusal
+list_at (Ok read) = read.list
+list_at (Err refusal) = 0

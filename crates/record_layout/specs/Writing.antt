@@ -1,8 +1,8 @@
 -- R32: what a writer gives for fields, a list and a buffer.
 use Rattle.std.specs.Prelude.{ℕ, Bool, not, ◌&&◌, List, [], ◌∷◌, ◌++◌, length, drop, leb, ltb, eqb}
-use Rattle.answers.specs.Numbers.{Reply, reply_of, accepted, refused}
+use Rattle.answers.specs.Numbers.{reply_of, accepted, refused, Answer}
+use Rattle.answers.specs.declared.Reply.{Reply}
 use Rattle.answers.specs.Order.{Rule, decide, ◌when◌}
-use Rattle.answers.specs.declared.Answer.{Answer}
 use Rattle.answers.specs.declared.Refusal.TheVariants.{NoRoom, BadRecord}
 use Rattle.counters.specs.Sizes.{Size}
 use Rattle.record_layout.specs.Kinds.{body_length, body_limit}

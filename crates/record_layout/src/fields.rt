@@ -2,7 +2,6 @@
 ghost use Rattle.std.specs.Prelude.{◌≡◌};
 ghost use Rattle.record_layout.specs.Fields.{kind_of_event, kind_of_fields};
 ghost use Rattle.record_layout.specs.Kinds.{shape_of};
-ghost use Rattle.record_layout.specs.Reading.{refusal_of};
 
 use crate::kind::{Kind, Shape};
 use answers::Refusal;
@@ -46,23 +45,24 @@ pub enum Fields {
     },
 }
 
-// A frame that is whole, with the length of its body and the number of its kind, or the refusal.
+// A frame that is whole: the length of its body, and the number of its kind.
 #[derive(Clone, Copy)]
-pub enum Framing {
-    Whole { length: u16, number: u16 },
-    Refused(Refusal),
+pub struct Frame {
+    pub length: u16,
+    pub number: u16,
 }
 
-// A reading is either the record, by its fields, the place where its list begins and the bytes that it takes, or the refusal.
+pub type Framing = Result<Frame, Refusal>;
+
+// A record that was read: its fields, the place where its list begins, and the bytes that it takes.
 #[derive(Clone, Copy)]
-pub enum Reading {
-    Record {
-        fields: Fields,
-        list: usize,
-        taken: usize,
-    },
-    Refused(Refusal),
+pub struct Record {
+    pub fields: Fields,
+    pub list: usize,
+    pub taken: usize,
 }
+
+pub type Reading = Result<Record, Refusal>;
 
 impl Event {
     pub fn kind(self) -> Kind
@@ -105,21 +105,5 @@ impl Fields {
         ensures { result ≡ shape_of (kind_of_fields self) }
     {
         self.kind().shape()
-    }
-}
-
-impl Reading {
-    // For whoever has found that there is no record; a record that is there is refused as one of a kind not wanted.
-    pub fn refusal(self) -> Refusal
-        ensures { result ≡ refusal_of self }
-    {
-        match self {
-            Reading::Record {
-                fields: _,
-                list: _,
-                taken: _,
-            } => Refusal::BadRecord,
-            Reading::Refused(refusal) => refusal,
-        }
     }
 }

@@ -1,8 +1,10 @@
 // The table of the records' kinds.
-ghost use Rattle.std.specs.Prelude.{◌≡◌};
+ghost use Rattle.std.specs.Prelude.{◌≡◌, ok_or};
+ghost use Rattle.answers.specs.declared.Refusal.TheVariants.{BadRecord};
 ghost use Rattle.answers.specs.Order.{pick};
 ghost use Rattle.record_layout.specs.Kinds.{shape_of, kind_of};
 
+use answers::Refusal;
 use counters::OBJECTS;
 
 // The longest body: that of an end record that lists every object.
@@ -27,12 +29,6 @@ pub struct Shape {
     pub head: u8,
     pub item: u8,
     pub counted: bool,
-}
-
-#[derive(Clone, Copy)]
-pub enum KindFound {
-    Known(Kind),
-    Unknown,
 }
 
 impl Kind {
@@ -86,19 +82,23 @@ fn chosen(test: bool, first: u16, second: u16) -> u16
     if test { first } else { second }
 }
 
-// The kind of a number, if one has it.
-pub fn of_number(number: u16) -> KindFound
-    ensures { result ≡ kind_of number }
-{
-    match number {
-        0x0100 => KindFound::Known(Kind::Fresh),
-        0x0101 => KindFound::Known(Kind::Start),
-        0x0102 => KindFound::Known(Kind::Call),
-        0x0103 => KindFound::Known(Kind::Release),
-        0x0104 => KindFound::Known(Kind::End { rollback: false }),
-        0x0105 => KindFound::Known(Kind::End { rollback: true }),
-        0x0201 => KindFound::Known(Kind::Ended { rollback: false }),
-        0x0202 => KindFound::Known(Kind::Ended { rollback: true }),
-        _ => KindFound::Unknown,
+// R28, 4: a number that is no kind's is refused.
+impl TryFrom<u16> for Kind {
+    type Error = Refusal;
+
+    ghost try_from_gives = { λ number kind. kind ≡ ok_or (kind_of number) BadRecord };
+
+    fn try_from(number: u16) -> Result<Kind, Refusal> {
+        match number {
+            0x0100 => Ok(Kind::Fresh),
+            0x0101 => Ok(Kind::Start),
+            0x0102 => Ok(Kind::Call),
+            0x0103 => Ok(Kind::Release),
+            0x0104 => Ok(Kind::End { rollback: false }),
+            0x0105 => Ok(Kind::End { rollback: true }),
+            0x0201 => Ok(Kind::Ended { rollback: false }),
+            0x0202 => Ok(Kind::Ended { rollback: true }),
+            _ => Err(Refusal::BadRecord),
+        }
     }
 }

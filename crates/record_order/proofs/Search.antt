@@ -1,4 +1,6 @@
 -- What the walk of one list inside a walk of the other finds.
+use Rattle.counters.specs.declared.Comparison.{Comparison}
+use Rattle.std.specs.Prelude.{None, Ok, Option, Some}
 use Prim.Native.Nat.{ℕ, ◌+◌, ◌≤◌}
 use mathlib.Core.Bool.{Bool, true, false}
 use mathlib.Core.List.{List, [], ◌∷◌}
@@ -11,22 +13,20 @@ use Rattle.counters.specs.Comparing.{compared}
 use Rattle.record_layout.specs.Entries.{Entry, rising_from}
 use Rattle.record_order.specs.CameFirst.{meet, meeting_of}
 use Rattle.record_order.specs.CommonObject.{Lists, Common}
-use Rattle.record_order.specs.declared.CameFirst.{CameFirst}
-use Rattle.record_order.specs.declared.CameFirst.TheVariants.{Compared, Unrelated}
 use Rattle.record_order.proofs.Listed.{behind_first}
 
 -- the walk of B's list for an entry of A's hits where the list has the object
-record Hit (e : Entry) (fs : List Entry) (otherwise : CameFirst) : Type 0 where
+record Hit (e : Entry) (fs : List Entry) (otherwise : Option Comparison) : Type 0 where
   pub version : ℕ
   pub listed : Lists fs e.object version
-  pub answer : meet e fs otherwise ≡ Compared (compared e.version version)
+  pub answer : meet e fs otherwise ≡ Some (compared e.version version)
 
 -- and else leaves it to what is given
-record Missed (e : Entry) (fs : List Entry) (otherwise : CameFirst) : Type 0 where
+record Missed (e : Entry) (fs : List Entry) (otherwise : Option Comparison) : Type 0 where
   pub unlisted : (w : ℕ) → Lists fs e.object w → ⊥
   pub answer : meet e fs otherwise ≡ otherwise
 
-hits_or_misses : (e : Entry) (fs : List Entry) (otherwise : CameFirst) → Hit e fs otherwise ⊎ Missed e fs otherwise
+hits_or_misses : (e : Entry) (fs : List Entry) (otherwise : Option Comparison) → Hit e fs otherwise ⊎ Missed e fs otherwise
 hits_or_misses e [] otherwise = inr (record { unlisted = λ w listed. listed; answer = refl })
 hits_or_misses e (f ∷ fs) otherwise = go (eqb e.object f.object) refl (hits_or_misses e fs otherwise)
   where
@@ -47,12 +47,12 @@ pub record Found (es fs : List Entry) : Type 0 where
   pub version_b : ℕ
   pub common : Common es fs object version_a version_b
   pub first : (objects least : ℕ) → rising_from objects least es ≡ true → (other x y : ℕ) → Common es fs other x y → object ≤ other
-  pub answer : meeting_of es fs ≡ Compared (compared version_a version_b)
+  pub answer : meeting_of es fs ≡ Some (compared version_a version_b)
 
 -- or there is none
 pub record NoneFound (es fs : List Entry) : Type 0 where
   pub none : (object v w : ℕ) → Common es fs object v w → ⊥
-  pub answer : meeting_of es fs ≡ Unrelated
+  pub answer : meeting_of es fs ≡ None
 
 -- where B does not list A's first object, what both list stands behind it
 passed : (e : Entry) (es fs : List Entry) → ((w : ℕ) → Lists fs e.object w → ⊥)

@@ -1,4 +1,6 @@
 -- R35 over bytes in steps of five: what each turn and each end of the two walks says of what they find.
+use Rattle.counters.specs.declared.Comparison.{Comparison}
+use Rattle.std.specs.Prelude.{None, Ok, Option, Some}
 use Prim.Native.Nat.{ℕ, ◌+◌, ◌-◌, ◌≤◌, ◌<◌}
 use mathlib.Core.List.{List}
 use mathlib.Core.Path.{◌≡◌, ap, ◌∙◌}
@@ -9,20 +11,18 @@ use Rattle.record_layout.specs.Bytes.{byte_at, word_of}
 use Rattle.record_layout.specs.Entries.{Entry, entries_of}
 use Rattle.record_layout.proofs.EntryWalk.{entries_next, entries_end}
 use Rattle.record_order.specs.CameFirst.{meet, meeting_of}
-use Rattle.record_order.specs.declared.CameFirst.{CameFirst}
-use Rattle.record_order.specs.declared.CameFirst.TheVariants.{Compared, Unrelated}
 
 module _ (a b : List ℕ) where
   -- what the walk of A's list finds from a place on
-  abbrev pub outer_from : ℕ → CameFirst
+  abbrev pub outer_from : ℕ → Option Comparison
   outer_from at = meeting_of (entries_of (drop at a)) (entries_of b)
 
   -- what a walk of entries of B's finds for the entry of A's list at a place
-  abbrev inner_over : ℕ → List Entry → CameFirst
+  abbrev inner_over : ℕ → List Entry → Option Comparison
   inner_over at fs = meet (record { object = byte_at a at; version = word_of (drop (at + 1) a) }) fs (outer_from (at + 5))
 
   -- what the walk of B's list finds from its place on
-  abbrev pub inner_from : ℕ → ℕ → CameFirst
+  abbrev pub inner_from : ℕ → ℕ → Option Comparison
   inner_from at_a at_b = inner_over at_a (entries_of (drop at_b b))
 
   -- a turn of the outer walk is an inner walk
@@ -30,14 +30,14 @@ module _ (a b : List ℕ) where
   outer_turns at_a more = ap (λ es. meeting_of es (entries_of b)) (entries_next a at_a more)
 
   -- and its end finds nothing
-  pub outer_ends : (at_a : ℕ) → length a - at_a ≤ 4 → outer_from at_a ≡ Unrelated
+  pub outer_ends : (at_a : ℕ) → length a - at_a ≤ 4 → outer_from at_a ≡ None
   outer_ends at_a none = ap (λ es. meeting_of es (entries_of b)) (entries_end a at_a none)
 
   -- the inner walk at a place of each list
   module _ (at_a at_b : ℕ) where
     -- a hit answers
     pub inner_hits : 4 < length b - at_b → byte_at a at_a ≡ byte_at b at_b
-        → inner_from at_a at_b ≡ Compared (compared (word_of (drop (at_a + 1) a)) (word_of (drop (at_b + 1) b)))
+        → inner_from at_a at_b ≡ Some (compared (word_of (drop (at_a + 1) a)) (word_of (drop (at_b + 1) b)))
     inner_hits more same = ap (inner_over at_a) (entries_next b at_b more) ∙ simp (eq-eqb _ _ same)
 
     -- a miss goes on

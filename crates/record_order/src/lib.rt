@@ -10,13 +10,8 @@ use answers::Refusal;
 use counters::{Comparison, Version};
 use record_layout::fields::{Fields, Reading};
 
-// R36: what two versions of one object say; R35: no object is listed by both; R34: one of the two is no end record.
-#[derive(Clone, Copy)]
-pub enum CameFirst {
-    Compared(Comparison),
-    Unrelated,
-    Refused(Refusal),
-}
+// R36: what two versions of one object say; R35: none where no object is listed by both; R34: one of the two is no end record.
+pub type CameFirst = Result<Option<Comparison>, Refusal>;
 
 // R34: A is tried before B.
 pub fn came_first(a: &[u8], b: &[u8]) -> CameFirst
@@ -24,31 +19,26 @@ pub fn came_first(a: &[u8], b: &[u8]) -> CameFirst
 {
     let read_a = record_read::read(a);
     if !is_end(read_a) {
-        return CameFirst::Refused(Refusal::BadRecord);
+        return Err(Refusal::BadRecord);
     }
     let read_b = record_read::read(b);
     if !is_end(read_b) {
-        return CameFirst::Refused(Refusal::BadRecord);
+        return Err(Refusal::BadRecord);
     }
-    meeting(
+    Ok(meeting(
         record_read::list_of(read_a, a),
         record_read::list_of(read_b, b),
-    )
+    ))
 }
 
 // R34: whether the record is what an end has written.
 fn is_end(read: Reading) -> bool
     ensures { result ≡ is_end read }
 {
-    let Reading::Record {
-        fields,
-        list: _,
-        taken: _,
-    } = read
-    else {
+    let Ok(record) = read else {
         return false;
     };
-    match fields {
+    match record.fields {
         Fields::Fresh { first: _ } => false,
         Fields::Event(_) => false,
         Fields::Ended {
@@ -60,10 +50,10 @@ fn is_end(read: Reading) -> bool
 }
 
 // R35: B's entries are gone through for each of A's, until two have the same object.
-fn meeting(a: &[u8], b: &[u8]) -> CameFirst
+fn meeting(a: &[u8], b: &[u8]) -> Option<Comparison>
     ensures { result ≡ meeting_of (entries_of a.now) (entries_of b.now) }
 {
-    let mut found = CameFirst::Unrelated;
+    let mut found = None;
     let mut at_a: usize = 0;
     'outer: while 4 < a.len() - at_a {
         let mut at_b: usize = 0;
@@ -71,7 +61,7 @@ fn meeting(a: &[u8], b: &[u8]) -> CameFirst
             if a[at_a] == b[at_b] {
                 let version_a = Version(record_bytes::word(a, at_a + 1));
                 let version_b = Version(record_bytes::word(b, at_b + 1));
-                found = CameFirst::Compared(version_a.compare(version_b));
+                found = Some(version_a.compare(version_b));
                 break 'outer;
             }
             at_b = at_b + 5;

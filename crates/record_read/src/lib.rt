@@ -7,22 +7,17 @@ ghost use Rattle.record_layout.specs.Bytes.{IsPart};
 ghost use Rattle.record_layout.specs.Reading.{reading, list_in, listing, list_at};
 ghost use Rattle.record_layout.specs.Telling.{told_by_reading};
 
-use answers::Refusal;
 use record_frame::frame;
-use record_layout::fields::{Framing, Reading};
-use record_layout::kind::{KindFound, of_number};
+use record_layout::fields::Reading;
+use record_layout::kind::Kind;
 
 // The first record, or the refusal. Each byte of frame and head is looked at once.
 pub fn read(s: &[u8]) -> Reading
     ensures { told_by_reading result ≡ told_by_reading (reading base s.now) }
 {
-    match frame(s) {
-        Framing::Refused(refusal) => Reading::Refused(refusal),
-        Framing::Whole { length, number } => match of_number(number) {
-            KindFound::Unknown => Reading::Refused(Refusal::BadRecord),
-            KindFound::Known(kind) => record_body::read(kind, &s[4..4 + length as usize]),
-        },
-    }
+    let frame = frame(s)?;
+    let kind = Kind::try_from(frame.number)?;
+    record_body::read(kind, &s[4..4 + frame.length as usize])
 }
 
 // The list that stands beside the fields, as that part of s; an empty part where the reading is refused.
@@ -37,13 +32,8 @@ pub fn list_of(read: Reading, s: &[u8]) -> &[u8]
     requires { told_by_reading read ≡ told_by_reading (reading base s.now) }
     ensures { IsPart result s.entry (list_at read) (list_in read s.now) }
 {
-    let Reading::Record {
-        fields: _,
-        list,
-        taken,
-    } = read
-    else {
+    let Ok(record) = read else {
         return &s[..0];
     };
-    &s[list..taken]
+    &s[record.list..record.taken]
 }

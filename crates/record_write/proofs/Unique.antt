@@ -3,7 +3,7 @@ use Prim.Native.Nat.{ℕ}
 use mathlib.Core.List.{List}
 use mathlib.Core.Path.{◌≡◌, ap}
 use Rattle.answers.proofs.Tells.{reply_tells}
-use Rattle.answers.specs.declared.Answer.{Answer}
+use Rattle.answers.specs.Numbers.{Answer}
 use Rattle.record_layout.specs.Writing.{Written, written}
 
 pub written_tells : (a b : Answer) (left right : List ℕ) → written a left ≡ written b right → (a ≡ b) × (left ≡ right)

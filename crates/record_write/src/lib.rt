@@ -17,13 +17,13 @@ pub fn write(fields: Fields, list: &[u8], buf: &mut [u8]) -> Answer
     let readable = record_check::readable(fields, list);
     let length = 4 + fields.shape().head as usize + list.len();
     if !readable {
-        return Answer::Refused(Refusal::BadRecord);
+        return Err(Refusal::BadRecord);
     }
     if buf.len() < length {
-        return Answer::Refused(Refusal::NoRoom);
+        return Err(Refusal::NoRoom);
     }
     put(fields, list, buf);
-    Answer::Accepted(length as u32)
+    Ok(length as u32)
 }
 
 // The front of the record, and the list behind it.

@@ -1,4 +1,6 @@
 -- R11: a refusal has value 0, and leaves the tables and the buffer as they came.
+use Rattle.record_layout.specs.Reading.{read_as, reading, listing, Reading}
+use Rattle.std.specs.Prelude.{Err, Ok}
 use Prim.Native.Nat.{ℕ}
 use mathlib.Core.Bool.{Bool}
 use mathlib.Core.List.{List}
@@ -9,10 +11,8 @@ use Rattle.answers.specs.declared.Refusal.{Refusal}
 use Rattle.answers.specs.declared.Refusal.TheVariants.{BadRecord}
 use Rattle.answers.proofs.Deciding.{Accepts, OneHolds, decided}
 use Rattle.counters.specs.Sizes.{Size}
-use Rattle.record_layout.specs.Reading.{reading, listing}
 use Rattle.record_layout.specs.declared.fields.Event.{Event}
 use Rattle.record_layout.specs.declared.fields.Fields.{Fields}
-use Rattle.record_layout.specs.declared.fields.Reading.{Reading}
 use Rattle.rules.specs.Tables.{State}
 use Rattle.rules.specs.Steps.{unchanged, Stepping, Outcome, beside, start_step, call_step, release_step, end_step, event_step, fields_step, read_step, record_step}
 use Rattle.rules.proofs.RulesOf.{rules_of_start, started, rules_of_call, called, rules_of_release, released, rules_of_end, ended}
@@ -88,8 +88,8 @@ module _ (z : Size) (t : State) where
 
   read_refused : (read : Reading) (list buffer : List ℕ)
       → (read_step z t read list buffer).reply.number ≢ 0 → AllUnchanged t buffer (read_step z t read list buffer)
-  read_refused (Reading.Record fields place taken) list buffer other = fields_refused fields list buffer other
-  read_refused (Reading.Refused refusal) list buffer other = refusal_changes_nothing t buffer refusal
+  read_refused (Ok read) list buffer other = fields_refused read.fields list buffer other
+  read_refused (Err refusal) list buffer other = refusal_changes_nothing t buffer refusal
 
   -- and any bytes of a record that are refused
   pub record_refused : (bytes buffer : List ℕ)

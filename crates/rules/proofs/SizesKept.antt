@@ -1,4 +1,6 @@
 -- Every event, accepted or refused, keeps the sizes of the tables.
+use Rattle.record_layout.specs.Reading.{read_as, reading, listing, Reading}
+use Rattle.std.specs.Prelude.{Err, Ok}
 use Prim.Native.Nat.{ℕ}
 use mathlib.Core.Bool.{Bool, true, false}
 use mathlib.Core.List.{List}
@@ -7,10 +9,8 @@ use mathlib.Core.Path.{◌≡◌, refl}
 use lib.Dec.{eqb}
 use borrow.Author.Tests.{eqb-true, eqb-false}
 use Rattle.counters.specs.Sizes.{Size}
-use Rattle.record_layout.specs.Reading.{reading, listing}
 use Rattle.record_layout.specs.declared.fields.Event.{Event}
 use Rattle.record_layout.specs.declared.fields.Fields.{Fields}
-use Rattle.record_layout.specs.declared.fields.Reading.{Reading}
 use Rattle.rules.specs.Tables.{State}
 use Rattle.rules.specs.Steps.{start_step, call_step, release_step, end_step, event_step, fields_step, read_step, record_step}
 use Rattle.rules.proofs.Stores.{Sized}
@@ -48,8 +48,8 @@ module _ (z : Size) (t : State) (sized : Sized z t) where
   fields_sized (Fields.Ended tick slot rollback) list buffer = sized
 
   read_sized : (read : Reading) (list buffer : List ℕ) → Sized z (read_step z t read list buffer).tables
-  read_sized (Reading.Record fields place taken) list buffer = fields_sized fields list buffer
-  read_sized (Reading.Refused refusal) list buffer = sized
+  read_sized (Ok read) list buffer = fields_sized read.fields list buffer
+  read_sized (Err refusal) list buffer = sized
 
   pub record_sized : (bytes buffer : List ℕ) → Sized z (record_step z t bytes buffer).tables
   record_sized bytes buffer = read_sized (reading z bytes) (listing z bytes) buffer

@@ -1,15 +1,15 @@
 -- R11: the five steps. The first rule that holds refuses, with the tables and the buffer as they came; else the event has its effect.
-use Rattle.std.specs.Prelude.{ℕ, Bool, List, ◌++◌, length, drop, ltb}
-use Rattle.answers.specs.Numbers.{Reply, accepted, refused}
+use Rattle.record_layout.specs.Reading.{read_as, reading, listing, Reading}
+use Rattle.std.specs.Prelude.{ℕ, Bool, List, ◌++◌, length, drop, ltb, Err, Ok}
+use Rattle.answers.specs.Numbers.{accepted, refused}
+use Rattle.answers.specs.declared.Reply.{Reply}
 use Rattle.answers.specs.Order.{decide}
 use Rattle.answers.specs.declared.Refusal.{Refusal}
 use Rattle.answers.specs.declared.Refusal.TheVariants.{BadRecord}
 use Rattle.counters.specs.Sizes.{Size}
 use Rattle.record_layout.specs.Declarations.{Declaration, declarations_of}
-use Rattle.record_layout.specs.Reading.{reading, listing}
 use Rattle.record_layout.specs.declared.fields.Event.{Event}
 use Rattle.record_layout.specs.declared.fields.Fields.{Fields}
-use Rattle.record_layout.specs.declared.fields.Reading.{Reading}
 use Rattle.kinds.specs.Kinds.{acted}
 use Rattle.kinds.specs.declared.Acted.{Acted}
 use Rattle.rules.specs.Tables.{State, object_at, live_at, pair_at}
@@ -73,8 +73,8 @@ fields_step z t (Fields.Event event) list buffer = event_step z t event list buf
 fields_step z t (Fields.Ended tick slot rollback) list buffer = beside buffer (unchanged t BadRecord)
 
 abbrev pub read_step : Size → State → Reading → List ℕ → List ℕ → Outcome
-read_step z t (Reading.Record fields place taken) list buffer = fields_step z t fields list buffer
-read_step z t (Reading.Refused refusal) list buffer = beside buffer (unchanged t refusal)
+read_step z t (Ok read) list buffer = fields_step z t read.fields list buffer
+read_step z t (Err refusal) list buffer = beside buffer (unchanged t refusal)
 
 -- R31: an event as the bytes of a record
 abbrev pub record_step : Size → State → List ℕ → List ℕ → Outcome

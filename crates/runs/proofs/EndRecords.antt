@@ -1,4 +1,5 @@
 -- The record that an end writes: its length, its bytes, and that it reads back.
+use Rattle.record_layout.specs.Reading.{read_as, Reading}
 use Prim.Native.Nat.{ℕ, ◌+◌, ◌*◌, ◌/◌, ◌%◌, ◌<◌, ◌≤◌}
 use mathlib.Core.Bool.{Bool, true, ◌&&◌}
 use mathlib.Core.List.{List, [], ◌∷◌, ◌++◌, append-nil}
@@ -19,7 +20,6 @@ use Rattle.record_layout.specs.Kinds.{shape_of, body_limit}
 use Rattle.record_layout.specs.Writing.{readable}
 use Rattle.record_layout.specs.declared.kind.Kind.TheVariants.{Ended}
 use Rattle.record_layout.specs.declared.fields.Fields.{Fields}
-use Rattle.record_layout.specs.declared.fields.Reading.{Reading}
 use Rattle.record_layout.proofs.LittleEndian.{word_again}
 use Rattle.record_layout.proofs.Lengths.{length_record, readable_beside}
 use Rattle.record_layout.proofs.ReadBack.{ReadsAs, written_reads_back}
@@ -129,7 +129,7 @@ record_reads_back z within t rollback s tick rest lists =
     written_reads_back z fields list rest (omega (arith, within.objects)) fit (end_readable lists rollback (tick % turnover)) in
     subst (λ (bytes : List ℕ). ReadsBack z t rollback s tick (bytes ++ rest)) (tick_wraps rollback s tick list)
     (record {
-      record_is = reads.record_is ∙ ap (Reading.Record fields 10) (length_end s (tick % turnover) list rollback ∙ ap (λ (n : ℕ). 10 + n) (entries_count z s t));
+      record_is = reads.record_is ∙ ap (read_as fields 10) (length_end s (tick % turnover) list rollback ∙ ap (λ (n : ℕ). 10 + n) (entries_count z s t));
       entries = ap entries_of reads.list_is ∙ entries_are lists;
     })
 

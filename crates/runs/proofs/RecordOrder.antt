@@ -1,4 +1,6 @@
 -- Which came first, of two end records whose entries are known.
+use Rattle.counters.specs.declared.Comparison.{Comparison}
+use Rattle.std.specs.Prelude.{Some, Ok}
 use Prim.Native.Nat.{ℕ, ◌+◌, ◌%◌, ◌<◌}
 use mathlib.Core.Bool.{Bool, true, false, ◌&&◌}
 use mathlib.Core.List.{List}
@@ -14,7 +16,6 @@ use Rattle.record_layout.specs.Entries.{entries_of}
 use Rattle.record_layout.specs.Reading.{reading, listing}
 use Rattle.record_order.specs.CameFirst.{came_first, is_end}
 use Rattle.record_order.specs.CommonObject.{Lists}
-use Rattle.record_order.specs.declared.CameFirst.TheVariants.{Compared}
 use Rattle.record_order.proofs.Answers.{smallest_decides}
 
 -- bytes that read as an end record, which lists exactly the objects that a start declares, with these versions wrapped to 32 bits
@@ -26,7 +27,7 @@ pub record Recorded (z : Size) (written : List ℕ) (declarations : List Declara
 -- the smallest object that both starts name is the smallest that both records list
 smallest_named : (z : Size) (a b : List ℕ) (starts-a starts-b : List Declaration) (version-a version-b : ℕ → ℕ) → Recorded z a starts-a version-a → Recorded z b starts-b version-b
     → (o : ℕ) → names starts-a o ≡ true → names starts-b o ≡ true → ((q : ℕ) → q < o → names starts-a q ≡ true → names starts-b q ≡ true → ⊥)
-    → came_first z a b ≡ Compared (compared (version-a o % turnover) (version-b o % turnover))
+    → came_first z a b ≡ Ok (Some (compared (version-a o % turnover) (version-b o % turnover)))
 smallest_named z a b starts-a starts-b version-a version-b recorded-a recorded-b o in_a in_b least =
     smallest_decides z a b recorded-a.is_end_lem recorded-b.is_end_lem o (version-a o % turnover) (version-b o % turnover)
     (record {
@@ -43,12 +44,12 @@ not_both a b e is-a is_b =
 -- R37: the answer is the start order, both ways round
 pub in_true_order : (z : Size) (a b : List ℕ) (starts-a starts-b : List Declaration) (version-a version-b : ℕ → ℕ) → Recorded z a starts-a version-a → Recorded z b starts-b version-b
     → (o : ℕ) → names starts-a o ≡ true → names starts-b o ≡ true → ((q : ℕ) → q < o → names starts-a q && names starts-b q ≡ false)
-    → version-a o < version-b o → version-b o < version-a o + 2147483648 → (came_first z a b ≡ Compared A) × (came_first z b a ≡ Compared B)
+    → version-a o < version-b o → version-b o < version-a o + 2147483648 → (came_first z a b ≡ Ok (Some A)) × (came_first z b a ≡ Ok (Some B))
 in_true_order z a b starts-a starts-b version-a version-b recorded-a recorded-b o in_a in_b least before near =
     let first : compared (version-a o % turnover) (version-b o % turnover) ≡ A = first_unwrapped (version-a o) (version-b o) before near in (
       smallest_named z a b starts-a starts-b version-a version-b recorded-a recorded-b o in_a in_b (λ q below. not_both (names starts-a q) (names starts-b q) (least q below))
-          ∙ ap Compared first,
+          ∙ ap (λ (c : Comparison). Ok (Some c)) first,
       smallest_named z b a starts-b starts-a version-b version-a recorded-b recorded-a o in_b in_a
           (λ q below named-b named-a. not_both (names starts-a q) (names starts-b q) (least q below) named-a named-b)
-          ∙ ap Compared (compared_swapped (version-a o % turnover) (version-b o % turnover) (omega arith) (omega arith) ∙ ap swapped first),
+          ∙ ap (λ (c : Comparison). Ok (Some c)) (compared_swapped (version-a o % turnover) (version-b o % turnover) (omega arith) (omega arith) ∙ ap swapped first),
     )

@@ -1,5 +1,6 @@
 -- What else holds after every run from fresh, with a first version.
-use Rattle.std.specs.Prelude.{ℕ, zero, suc, ◌+◌, ◌*◌, ◌%◌, ◌<◌, ◌≤◌, Bool, true, false, ◌&&◌, List, [], ◌∷◌, ◌++◌, map, ◌≡◌, length}
+use Rattle.record_layout.specs.Reading.{read_as, reading, listing, Reading}
+use Rattle.std.specs.Prelude.{ℕ, zero, suc, ◌+◌, ◌*◌, ◌%◌, ◌<◌, ◌≤◌, Bool, true, false, ◌&&◌, List, [], ◌∷◌, ◌++◌, map, ◌≡◌, length, Some, Ok}
 use Rattle.answers.specs.Numbers.{number_of}
 use Rattle.answers.specs.Order.{pick}
 use Rattle.answers.specs.declared.Refusal.TheVariants.{Released, Wait}
@@ -9,13 +10,10 @@ use Rattle.counters.specs.declared.Turn.{Turn}
 use Rattle.counters.specs.declared.Comparison.TheVariants.{A, B}
 use Rattle.record_layout.specs.Declarations.{names}
 use Rattle.record_layout.specs.Entries.{Entry, entries_of}
-use Rattle.record_layout.specs.Reading.{reading, listing}
-use Rattle.record_layout.specs.declared.fields.Reading.{Reading}
 use Rattle.objects.specs.Places.{no_pair, says_released, says_wait}
 use Rattle.objects.specs.declared.Object.{Object}
 use Rattle.objects.specs.declared.Pair.{Pair}
 use Rattle.record_order.specs.CameFirst.{came_first}
-use Rattle.record_order.specs.declared.CameFirst.TheVariants.{Compared}
 use Rattle.rules.specs.Tables.{State, object_at, live_at, pair_at}
 use Rattle.rules.specs.Walks.{join_below}
 use Rattle.rules.specs.Effects.{end_fields}
@@ -77,7 +75,7 @@ declared_entries z s t = join_below z.objects (λ o. declared_entry o (pair_at z
 
 -- R27: what an end writes reads as that end, with its tick of 32 bits, and takes 10 bytes and five for each object
 pub record ReadsBack (z : Size) (t : State) (rollback : Bool) (s tick : ℕ) (bytes : List ℕ) : Type 0 where
-  pub record_is : reading z bytes ≡ Reading.Record (end_fields rollback (tick % turnover) s) 10 (10 + 5 * length (declared_entries z s t))
+  pub record_is : reading z bytes ≡ read_as (end_fields rollback (tick % turnover) s) 10 (10 + 5 * length (declared_entries z s t))
   pub entries : entries_of (listing z bytes) ≡ declared_entries z s t
 
 abbrev pub EndsReadBack : Size → State → Type 0
@@ -110,7 +108,7 @@ pub record TwoEnded (history : History) (o : ℕ) : Type 0 where
 abbrev pub TrueOrder : Size → ℕ → History → Type 0
 TrueOrder z first history = (o : ℕ) (two : TwoEnded history o)
     → unwrapped first o (two.before ++ two.earlier ∷ two.between) < unwrapped first o two.before + 2147483648
-    → (came_first z two.earlier.written two.later.written ≡ Compared A) × (came_first z two.later.written two.earlier.written ≡ Compared B)
+    → (came_first z two.earlier.written two.later.written ≡ Ok (Some A)) × (came_first z two.later.written two.earlier.written ≡ Ok (Some B))
 
 pub record Companions (z : Size) (first : ℕ) (run : Run) : Type 0 where
   pub live_once : LiveOnce run

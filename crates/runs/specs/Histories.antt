@@ -1,6 +1,6 @@
 -- The history of a run: every transaction in start order, made only from the accepted events and what came back of them.
 use Rattle.std.specs.Prelude.{ℕ, Bool, true, false, ◌&&◌, List, [], ◌∷◌, ◌++◌, map, take, eqb}
-use Rattle.answers.specs.Numbers.{Reply}
+use Rattle.answers.specs.declared.Reply.{Reply}
 use Rattle.answers.specs.Order.{pick}
 use Rattle.record_layout.specs.Declarations.{Declaration, declarations_of}
 use Rattle.record_layout.specs.declared.fields.Event.{Event}

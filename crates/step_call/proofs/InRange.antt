@@ -8,10 +8,9 @@ use lib.Dec.{leb}
 use borrow.Author.Tests.{leb-false}
 use Rattle.answers.proofs.Deciding.{behind_rule}
 use Rattle.answers.proofs.Saying.{none_holds, when_passes, when_refuses}
-use Rattle.answers.specs.Order.{Rule, decide, ◌when◌}
+use Rattle.answers.specs.Order.{Rule, decide, ◌when◌, refuses, passes}
 use Rattle.answers.specs.declared.Refusal.{Refusal}
 use Rattle.answers.specs.declared.Refusal.TheVariants.{BadSlot, Idle, BadObject}
-use Rattle.answers.specs.declared.Verdict.TheVariants.{Passes, Refuses}
 use Rattle.counters.specs.Sizes.{Size}
 use Rattle.rules.specs.Tables.{State, live_at}
 use Rattle.rules.specs.Steps.{Stepping, unchanged}
@@ -48,12 +47,12 @@ module _ (z : Size) (t : State) (slot number s o : ℕ) (right_slot : slot < z.s
       behind_rule (BadObject when leb z.objects number) (others slot o) (others slot number) refused accepted
       (λ known. ap (λ (q : ℕ). decide (others slot q) refused accepted) (right_object (leb-false _ _ known)))))
 
-  pub step_refused : (effect : ℕ → ℕ → Stepping) (refusal : Refusal) → decide asked Refuses Passes ≡ Refuses refusal
+  pub step_refused : (effect : ℕ → ℕ → Stepping) (refusal : Refusal) → decide asked refuses passes ≡ refuses refusal
       → unchanged t refusal ≡ decide meant (unchanged t) (effect slot number)
   step_refused effect refusal e =
       sym (when_refuses asked refusal e (unchanged t) (effect slot number)) ∙ same_verdict (unchanged t) (effect slot number)
 
-  pub step_passed : (effect : ℕ → ℕ → Stepping) → decide asked Refuses Passes ≡ Passes
+  pub step_passed : (effect : ℕ → ℕ → Stepping) → decide asked refuses passes ≡ passes
       → effect s o ≡ decide meant (unchanged t) (effect slot number)
   step_passed effect e =
       let none = none_holds asked e in

@@ -5,7 +5,7 @@ use mathlib.Core.List.{List, ◌∷◌}
 use mathlib.Core.Path.{◌≡◌, sym, ◌∙◌}
 use lib.Dec.{leb}
 use Rattle.answers.specs.Numbers.{accepted}
-use Rattle.answers.specs.Order.{Rule, decide, ◌when◌}
+use Rattle.answers.specs.Order.{Rule, decide, ◌when◌, refuses, passes}
 use Rattle.answers.specs.declared.Refusal.{Refusal}
 use Rattle.answers.specs.declared.Refusal.TheVariants.{NotDeclared, BadCall, Doomed}
 use Rattle.counters.specs.Sizes.{Size}
@@ -18,7 +18,6 @@ use Rattle.rules.specs.Tables.{State, object_at, live_at, pair_at, with_object, 
 use Rattle.rules.specs.Refusing.{doomed, turn_rules, call_rules, release_rules}
 use Rattle.rules.specs.Effects.{call_effect, release_effect}
 use Rattle.rules.specs.Steps.{Stepping, unchanged, call_step, release_step}
-use Rattle.answers.specs.declared.Verdict.TheVariants.{Passes, Refuses}
 use Rattle.step_call.proofs.InRange.{step_refused, step_passed}
 
 -- what is looked at in t: the slot and the object of the event where these are in range, and what stands there
@@ -36,20 +35,20 @@ module _ {z : Size} {t : State} {slot number s o : ℕ} {live : Bool} {pair : Pa
   released : ℕ → ℕ → Stepping
   released r q = record { tables = release_effect z r q t; reply = accepted 0 }
 
-  pub release_refused : (refusal : Refusal) → decide (release_rules z slot number live pair object) Refuses Passes ≡ Refuses refusal
+  pub release_refused : (refusal : Refusal) → decide (release_rules z slot number live pair object) refuses passes ≡ refuses refusal
       → unchanged t refusal ≡ release_step z t slot number
   unfolding releasing released
   release_refused refusal e =
       step_refused z t slot number s o looked.right_slot looked.right_object releasing released refusal
-      ((λ i. decide (release_rules z slot number (sym looked.is_live i) (sym looked.is_pair i) (sym looked.is_object i)) Refuses Passes) ∙ e)
+      ((λ i. decide (release_rules z slot number (sym looked.is_live i) (sym looked.is_pair i) (sym looked.is_object i)) refuses passes) ∙ e)
 
-  pub release_passed : decide (release_rules z slot number live pair object) Refuses Passes ≡ Passes
+  pub release_passed : decide (release_rules z slot number live pair object) refuses passes ≡ passes
       → record { tables = with_object t o (let_go pair.private object); reply = accepted 0 } ≡ release_step z t slot number
   unfolding releasing released
   release_passed e =
       (λ i. record { tables = with_object t o (let_go (looked.is_pair i).private (looked.is_object i)); reply = accepted 0 })
       ∙ step_passed z t slot number s o looked.right_slot looked.right_object releasing released
-      ((λ i. decide (release_rules z slot number (sym looked.is_live i) (sym looked.is_pair i) (sym looked.is_object i)) Refuses Passes) ∙ e)
+      ((λ i. decide (release_rules z slot number (sym looked.is_live i) (sym looked.is_pair i) (sym looked.is_object i)) refuses passes) ∙ e)
 
   module _ (kind argument : ℕ) (is-doomed : Bool) (dooms : is-doomed ≡ doomed z t s) where
     calling : ℕ → ℕ → List Rule
@@ -62,14 +61,14 @@ module _ {z : Size} {t : State} {slot number s o : ℕ} {live : Bool} {pair : Pa
     called : ℕ → ℕ → Stepping
     called r q = record { tables = call_effect z r q (acted kind (object_at t q).word argument).word t; reply = accepted (acted kind (object_at t q).word argument).answer }
 
-    pub call_refused : (refusal : Refusal) → decide (call_rules z slot number kind live is-doomed pair object) Refuses Passes ≡ Refuses refusal
+    pub call_refused : (refusal : Refusal) → decide (call_rules z slot number kind live is-doomed pair object) refuses passes ≡ refuses refusal
         → unchanged t refusal ≡ call_step z t slot number kind argument
     unfolding calling called
     call_refused refusal e =
         step_refused z t slot number s o looked.right_slot looked.right_object calling called refusal
-        ((λ i. decide (call_rules z slot number kind (sym looked.is_live i) (sym dooms i) (sym looked.is_pair i) (sym looked.is_object i)) Refuses Passes) ∙ e)
+        ((λ i. decide (call_rules z slot number kind (sym looked.is_live i) (sym dooms i) (sym looked.is_pair i) (sym looked.is_object i)) refuses passes) ∙ e)
 
-    pub call_passed : decide (call_rules z slot number kind live is-doomed pair object) Refuses Passes ≡ Passes
+    pub call_passed : decide (call_rules z slot number kind live is-doomed pair object) refuses passes ≡ passes
         → (act : Acted) (next : Object) (next-pair : Pair) → act ≡ acted kind object.word argument
         → next ≡ called_object act.word pair object → next-pair ≡ called_pair pair object
         → record { tables = with_pair z (with_object t o next) s o next-pair; reply = accepted act.answer } ≡ call_step z t slot number kind argument
@@ -85,4 +84,4 @@ module _ {z : Size} {t : State} {slot number s o : ℕ} {live : Bool} {pair : Pa
           reply = accepted (acted kind (looked.is_object i).word argument).answer;
         })
         ∙ step_passed z t slot number s o looked.right_slot looked.right_object calling called
-        ((λ i. decide (call_rules z slot number kind (sym looked.is_live i) (sym dooms i) (sym looked.is_pair i) (sym looked.is_object i)) Refuses Passes) ∙ e)
+        ((λ i. decide (call_rules z slot number kind (sym looked.is_live i) (sym dooms i) (sym looked.is_pair i) (sym looked.is_object i)) refuses passes) ∙ e)

@@ -7,7 +7,7 @@ ghost use Rattle.tables.specs.Places.{Fits};
 ghost use Rattle.tables.specs.Views.{view};
 ghost use Rattle.tables.specs.Serving.Changes.{Steps};
 
-use answers::{Answer, Verdict};
+use answers::Answer;
 use counters::{ObjectNo, Size, SlotNo};
 use tables::{columns, places};
 
@@ -30,23 +30,19 @@ pub fn call(
     let doomed = columns::doomed(marks, size, s);
     let pair = tables::pair_at(words, bytes, marks, size, s, o);
     let object = tables::object_at(words, size, o);
-    match leaf_call::call(size, slot, number, kind, live, doomed, pair, object) {
-        Verdict::Refuses(refusal) => Answer::Refused(refusal),
-        Verdict::Passes => {
-            let acted = kinds::act(kind, object.word, argument);
-            tables::store_object(words, size, o, leaf_call::object(object, pair, acted.word));
-            tables::store_pair(
-                words,
-                bytes,
-                marks,
-                size,
-                s,
-                o,
-                leaf_call::pair(pair, object),
-            );
-            Answer::Accepted(acted.answer)
-        }
-    }
+    leaf_call::call(size, slot, number, kind, live, doomed, pair, object)?;
+    let acted = kinds::act(kind, object.word, argument);
+    tables::store_object(words, size, o, leaf_call::object(object, pair, acted.word));
+    tables::store_pair(
+        words,
+        bytes,
+        marks,
+        size,
+        s,
+        o,
+        leaf_call::pair(pair, object),
+    );
+    Ok(acted.answer)
 }
 
 pub fn release(
@@ -65,12 +61,7 @@ pub fn release(
     let live = tables::live_at(marks, size, s);
     let pair = tables::pair_at(words, bytes, marks, size, s, o);
     let object = tables::object_at(words, size, o);
-    match leaf_call::release(size, slot, number, live, pair, object) {
-        Verdict::Refuses(refusal) => Answer::Refused(refusal),
-        Verdict::Passes => {
-            let private = pair.private;
-            tables::store_object(words, size, o, object.let_go(private));
-            Answer::Accepted(0)
-        }
-    }
+    leaf_call::release(size, slot, number, live, pair, object)?;
+    tables::store_object(words, size, o, object.let_go(pair.private));
+    Ok(0)
 }

@@ -8,7 +8,7 @@ use lib.ListN.{length, drop}
 use lib.Dec.{leb, ltb}
 use borrow.Author.Tests.{leb-false, ltb-false}
 use Rattle.answers.specs.Numbers.{accepted}
-use Rattle.answers.specs.Order.{Rule, decide}
+use Rattle.answers.specs.Order.{Rule, decide, refuses, passes}
 use Rattle.answers.specs.declared.Refusal.{Refusal}
 use Rattle.counters.specs.Sizes.{Size}
 use Rattle.record_layout.specs.Kinds.{shape_of}
@@ -20,7 +20,6 @@ use Rattle.rules.specs.Effects.{end_entries, end_fields, end_record, end_turn, e
 use Rattle.rules.specs.Steps.{Outcome, unchanged, beside, end_step}
 use Rattle.leaf_end.specs.Serving.Standings.{standing_of}
 use Rattle.leaf_end.specs.declared.Standing.{Standing}
-use Rattle.answers.specs.declared.Verdict.TheVariants.{Passes, Refuses}
 use Rattle.answers.proofs.Saying.{none_holds, when_passes, when_refuses}
 use Rattle.leaf_end.specs.Serving.Ends.{end_cleared}
 use Rattle.leaf_end.proofs.EndClears.{cleared_behind}
@@ -36,7 +35,7 @@ end_front false tick slot = refl
 
 -- an end that passes has its slot in range, and room
 passing : (z : Size) (rollback : Bool) (slot : ℕ) (live is-doomed is-unmet short : Bool)
-    → decide (end_rules z rollback slot live is-doomed is-unmet short) Refuses Passes ≡ Passes → (slot < z.slots) × (short ≡ false)
+    → decide (end_rules z rollback slot live is-doomed is-unmet short) refuses passes ≡ passes → (slot < z.slots) × (short ≡ false)
 passing z true slot live is-doomed is-unmet short e =
     let none = none_holds (end_rules z true slot live is-doomed is-unmet short) e in
     (leb-false _ _ none.0, none.1.1.1.0)
@@ -94,15 +93,15 @@ module _ {z : Size} {t : State} {slot s : ℕ} {buffer : List ℕ} {live : Bool}
       (λ refusal. beside buffer (unchanged t refusal)) made)
       (sym (end_length rollback tick slot (end_entries z slot t)))
 
-  pub end_refused : (refusal : Refusal) → decide (end_rules z rollback slot live standing.doomed standing.unmet short) Refuses Passes ≡ Refuses refusal
+  pub end_refused : (refusal : Refusal) → decide (end_rules z rollback slot live standing.doomed standing.unmet short) refuses passes ≡ refuses refusal
       → beside buffer (unchanged t refusal) ≡ end_step z rollback t slot tick buffer
   unfolding rules_at made
   end_refused refusal e =
-      sym (when_refuses (rules_at s) refusal (ap (λ (rules : List Rule). decide rules Refuses Passes) (sym said) ∙ e) (λ x. beside buffer (unchanged t x)) made)
+      sym (when_refuses (rules_at s) refusal (ap (λ (rules : List Rule). decide rules refuses passes) (sym said) ∙ e) (λ x. beside buffer (unchanged t x)) made)
       ∙ same_verdict (λ x. beside buffer (unchanged t x)) made
       ∙ stated
 
-  module _ (e : decide (end_rules z rollback slot live standing.doomed standing.unmet short) Refuses Passes ≡ Passes) where
+  module _ (e : decide (end_rules z rollback slot live standing.doomed standing.unmet short) refuses passes ≡ passes) where
     pub has_room : 10 + standing.bytes ≤ length buffer
     has_room = ltb-false (length buffer) (10 + standing.bytes) (sym looked.is_short ∙ (passing z rollback slot live standing.doomed standing.unmet short e).1)
 
@@ -120,6 +119,6 @@ module _ {z : Size} {t : State} {slot s : ℕ} {buffer : List ℕ} {live : Bool}
         let record_is : written ≡ end_record z rollback slot tick t ++ drop (length (end_record z rollback slot tick t)) buffer =
         is-written ∙ (λ i. record_of (end_fields rollback tick slot) (end_entries z (same i) t) ++ drop (long i) buffer) in
         (λ i. record { tables = tables i; reply = accepted (long i); buffer = record_is i })
-        ∙ sym (when_passes (rules_at s) (ap (λ (rules : List Rule). decide rules Refuses Passes) (sym said) ∙ e) (λ x. beside buffer (unchanged t x)) made)
+        ∙ sym (when_passes (rules_at s) (ap (λ (rules : List Rule). decide rules refuses passes) (sym said) ∙ e) (λ x. beside buffer (unchanged t x)) made)
         ∙ same_verdict (λ x. beside buffer (unchanged t x)) made
         ∙ stated

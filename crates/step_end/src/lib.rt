@@ -12,7 +12,7 @@ ghost use Rattle.tables.specs.Serving.Changes.{Become, Ends};
 
 mod writing;
 
-use answers::{Answer, Verdict};
+use answers::Answer;
 use counters::{Size, SlotNo};
 use leaf_end::Standing;
 use objects::Pair;
@@ -35,26 +35,22 @@ pub fn end(
     let live = tables::live_at(marks, size, s);
     let standing = look(words, bytes, marks, size, s);
     let short = buf.len() < 10 + standing.bytes as usize;
-    match leaf_end::verdict(size, slot, rollback, live, standing, short) {
-        Verdict::Refuses(refusal) => Answer::Refused(refusal),
-        Verdict::Passes => {
-            writing::record(
-                words,
-                bytes,
-                marks,
-                size,
-                s,
-                rollback,
-                tick,
-                slot,
-                standing.bytes,
-                buf,
-            );
-            settle(words, bytes, marks, size, s, rollback);
-            tables::store_live(marks, size, s, false);
-            Answer::Accepted(10 + standing.bytes as u32)
-        }
-    }
+    leaf_end::verdict(size, slot, rollback, live, standing, short)?;
+    writing::record(
+        words,
+        bytes,
+        marks,
+        size,
+        s,
+        rollback,
+        tick,
+        slot,
+        standing.bytes,
+        buf,
+    );
+    settle(words, bytes, marks, size, s, rollback);
+    tables::store_live(marks, size, s, false);
+    Ok(10 + standing.bytes as u32)
 }
 
 // How the slot stands by all its objects.

@@ -13,7 +13,7 @@ ghost use Rattle.tables.specs.Places.{words_long, Fits};
 ghost use Rattle.tables.specs.Views.{view};
 ghost use Rattle.tables.specs.Serving.Changes.{Become, WordsBecome, Steps};
 
-use answers::{Answer, Verdict};
+use answers::Answer;
 use counters::{Size, SlotNo, Version};
 use objects::{Object, Pair};
 use tables::places;
@@ -30,15 +30,11 @@ pub fn start(
     ensures { Steps size words.new bytes.new marks.new result (start_step size (view size words.old bytes.old marks.old) slot.0 list.now) }
 {
     let s = places::keep_in_range(slot.0, size.slots);
-    match leaf_start::verdict(size, slot, tables::live_at(marks, size, s), list) {
-        Verdict::Refuses(refusal) => Answer::Refused(refusal),
-        Verdict::Passes => {
-            clear(words, bytes, marks, size, s);
-            declare_all(words, bytes, marks, size, s, list);
-            tables::store_live(marks, size, s, true);
-            Answer::Accepted(0)
-        }
-    }
+    leaf_start::verdict(size, slot, tables::live_at(marks, size, s), list)?;
+    clear(words, bytes, marks, size, s);
+    declare_all(words, bytes, marks, size, s, list);
+    tables::store_live(marks, size, s, true);
+    Ok(0)
 }
 
 // All pairs of the slot zero.

@@ -14,7 +14,7 @@ pub fn read(s: &[u8]) {
 fn frame(framing: Framing) {
     match framing {
         Framing::Whole { length: _, number } => kind(number),
-        Framing::Refused(refusal) => number(refusal.number()),
+        Err(refusal) => number(refusal.number()),
     }
 }
 
@@ -25,7 +25,7 @@ fn reading(reading: Reading) {
             list: _,
             taken: _,
         } => told(fields),
-        Reading::Refused(refusal) => number(refusal.number()),
+        Err(refusal) => number(refusal.number()),
     }
 }
 

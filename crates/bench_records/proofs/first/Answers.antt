@@ -1,12 +1,11 @@
 -- What was read tells as the reading does, so it is the reading, and the first record gives what that reading gives.
+use Rattle.record_layout.specs.Reading.{read_as, reading, list_in, refusal_of, Reading}
 use Rattle.std.proofs.Common.{◌≡◌, ℕ, List, length, sym, ap, ◌∙◌}
 use Rattle.counters.specs.Sizes.{base}
 use Rattle.record_layout.proofs.Telling.{reading_tells}
 use Rattle.record_layout.proofs.WriteBack.{list_inside, taken_inside, list_long}
-use Rattle.record_layout.specs.Reading.{reading, list_in, refusal_of}
 use Rattle.record_layout.specs.Telling.{told_by_reading}
 use Rattle.record_layout.specs.declared.fields.Fields.{Fields}
-use Rattle.record_layout.specs.declared.fields.Reading.{Reading}
 use Rattle.bench_records.specs.Records.{not_fresh, first_read, first_step}
 use Rattle.bench_records.proofs.first.Goals as goal
 
@@ -15,9 +14,9 @@ known : (bytes : List ℕ) (r : Reading) → reading base bytes ≡ r → first_
 known bytes r e = sym (ap (λ (r : Reading). first_read base r (list_in r bytes)) e)
 
 -- the record that was told, with the fields that it is matched as
-is_read : (bytes : List ℕ) (f g : Fields) (at taken : ℕ) → told_by_reading (Reading.Record f at taken) ≡ told_by_reading (reading base bytes) → f ≡ g
-    → reading base bytes ≡ Reading.Record g at taken
-is_read bytes f g at taken told same = sym (reading_tells _ _ told) ∙ ap (λ (f : Fields). Reading.Record f at taken) same
+is_read : (bytes : List ℕ) (f g : Fields) (at taken : ℕ) → told_by_reading (read_as f at taken) ≡ told_by_reading (reading base bytes) → f ≡ g
+    → reading base bytes ≡ read_as g at taken
+is_read bytes f g at taken told same = sym (reading_tells _ _ told) ∙ ap (λ (f : Fields). read_as f at taken) same
 
 pub returns-in_default : goal.returns-in_default
 returns-in_default c =

@@ -3,8 +3,7 @@ use Rattle.std.proofs.Common.{ℕ, List, length, ltb, ap, ◌∙◌}
 use Rattle.counters.specs.Sizes.{base}
 use Rattle.pump.specs.Held.{held}
 use Rattle.record_layout.proofs.Telling.{reading_tells}
-use Rattle.record_layout.specs.Reading.{list_in}
-use Rattle.record_layout.specs.declared.fields.Reading.{Reading}
+use Rattle.record_layout.specs.Reading.{list_in, Reading}
 use Rattle.rules.specs.Steps.{read_step}
 use Rattle.bench_records.specs.Records.{end_buffer, stops_at, taken_by}
 use Rattle.bench_records.proofs.next.Goals as goal

@@ -3,9 +3,8 @@ use Rattle.std.proofs.Common.{◌≡◌, ℕ, Bool, List, sym, ap, ◌∙◌}
 use Rattle.counters.specs.Sizes.{base}
 use Rattle.record_layout.proofs.Telling.{reading_tells}
 use Rattle.record_layout.specs.Entries.{entries_of}
-use Rattle.record_layout.specs.Reading.{reading, list_in}
+use Rattle.record_layout.specs.Reading.{reading, list_in, Reading}
 use Rattle.record_layout.specs.Telling.{told_by_reading}
-use Rattle.record_layout.specs.declared.fields.Reading.{Reading}
 use Rattle.record_order.specs.CameFirst.{is_end, meeting_of, order_of}
 use Rattle.record_order.proofs.Answers.{refused_for_a, refused_for_b, both_meet}
 use Rattle.record_order.proofs.came_first.Goals as goal

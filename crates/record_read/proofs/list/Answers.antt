@@ -2,8 +2,7 @@
 use Rattle.std.proofs.Common.{ap, ◌∙◌}
 use Rattle.record_layout.proofs.Telling.{reading_tells}
 use Rattle.record_layout.specs.Bytes.{moved}
-use Rattle.record_layout.specs.Reading.{list_in, list_at}
-use Rattle.record_layout.specs.declared.fields.Reading.{Reading}
+use Rattle.record_layout.specs.Reading.{list_in, list_at, Reading}
 use Rattle.record_read.proofs.list.Goals as goal
 
 pub returns : goal.returns

@@ -1,26 +1,25 @@
 -- What the frame tells leaves the reading to the kind that its number names, on the body that stands behind it.
+use Rattle.record_layout.specs.Reading.{framed_as, framing, reading_of, body_reading, body, reading, Framing}
+use Rattle.std.specs.Prelude.{Option}
 use Rattle.std.proofs.Common.{◌≡◌, ℕ, sym, ap, ◌∙◌, List, take, drop}
 use native.Mathlib.Nat.{add-sub_cancel_left}
 use Rattle.counters.specs.Sizes.{base}
 use Rattle.record_frame.proofs.Frames.{IsWhole, whole, not_whole}
 use Rattle.record_layout.proofs.Telling.{framing_tells}
 use Rattle.record_layout.specs.Kinds.{kind_of}
-use Rattle.record_layout.specs.Reading.{framing, reading_of, body_reading, body, reading}
 use Rattle.record_layout.specs.Telling.{told_by_framing, told_by_reading}
-use Rattle.record_layout.specs.declared.fields.Framing.{Framing}
-use Rattle.record_layout.specs.declared.kind.KindFound.{KindFound}
 use Rattle.record_read.proofs.read.Goals as goal
 
 -- the whole frame that was told
-told_whole : (s : List ℕ) (length number : ℕ) → told_by_framing (Framing.Whole length number) ≡ told_by_framing (framing base s)
+told_whole : (s : List ℕ) (length number : ℕ) → told_by_framing (framed_as length number) ≡ told_by_framing (framing base s)
     → IsWhole base s length number
 told_whole s length number told = whole base s length number (sym (framing_tells _ _ told))
 
 -- the reading is that of the kind which was found
-found_reading : (s : List ℕ) (length number : ℕ) (found : KindFound) → IsWhole base s length number → found ≡ kind_of number
+found_reading : (s : List ℕ) (length number : ℕ) (found : Option Kind) → IsWhole base s length number → found ≡ kind_of number
     → reading base s ≡ reading_of base found (body base s)
 found_reading s length number found is_whole named =
-    is_whole.reading_is ∙ ap (λ (k : KindFound). reading_of base k (body base s)) (sym named)
+    is_whole.reading_is ∙ ap (λ (k : Option Kind). reading_of base k (body base s)) (sym named)
 
 pub slice_bounds-read-end : goal.slice_bounds-read-end
 slice_bounds-read-end c = (told_whole c.args.s.now c.in-Whole.length c.in-Whole.number c.in-Whole.ensures).is_there

@@ -6,8 +6,8 @@ use Rattle.tables.specs.Views.{view}
 use Rattle.step_call.proofs.Looked.{LookedAtPair, call_refused, call_passed}
 use Rattle.step_call.proofs.call.Goals as goal
 
-pub returns-in-Refuses : goal.returns-in-Refuses
-returns-in-Refuses c =
+pub returns-in-Err : goal.returns-in-Err
+returns-in-Err c =
     let a = c.args in
     let looked : LookedAtPair a.size (view a.size a.words.now a.bytes.now a.marks.now) a.slot.0 a.number.0 c.keep_in_range-s.result c.keep_in_range-o.result
     c.live_at-live.result c.pair_at-pair.result c.object_at-object.result =
@@ -20,11 +20,11 @@ returns-in-Refuses c =
     } in (
       c.requires.0,
       call_refused looked a.kind a.argument c.doomed-doomed.result (c.doomed-doomed.ensures a.words.now a.bytes.now)
-          c.in-Refuses.refusal (sym c.in-Refuses.ensures),
+          c.in-Err.refusal (sym c.in-Err.ensures),
     )
 
-pub returns-in-Passes : goal.returns-in-Passes
-returns-in-Passes c =
+pub returns-in-Ok : goal.returns-in-Ok
+returns-in-Ok c =
     let a = c.args in
     let s = c.keep_in_range-s.result in
     let o = c.keep_in_range-o.result in
@@ -42,6 +42,6 @@ returns-in-Passes c =
           ∙ ap (λ (u : State). record { tables = with_pair a.size u s o c.pair.result; reply = accepted c.act-acted.result.answer })
           (c.store_object.ensures.1 a.bytes.now a.marks.now)
           ∙ call_passed looked a.kind a.argument c.doomed-doomed.result (c.doomed-doomed.ensures a.words.now a.bytes.now)
-          (sym c.in-Passes.ensures)
+          (sym c.in-Ok.ensures)
           c.act-acted.result c.object.result c.pair.result c.act-acted.ensures c.object.ensures c.pair.ensures,
     )

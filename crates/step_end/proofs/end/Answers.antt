@@ -4,8 +4,8 @@ use Rattle.tables.specs.Views.{view}
 use Rattle.step_end.proofs.Ended.{LookedAtSlot, end_refused, end_passed}
 use Rattle.step_end.proofs.end.Goals as goal
 
-pub returns-in-Refuses : goal.returns-in-Refuses
-returns-in-Refuses c =
+pub returns-in-Err : goal.returns-in-Err
+returns-in-Err c =
     let a = c.args in
     let standing = c.look-standing.result in
     let found = view a.size a.words.now a.bytes.now a.marks.now in
@@ -17,10 +17,10 @@ returns-in-Refuses c =
       is_standing = c.look-standing.ensures.0;
       is_short = refl;
     } in
-    (c.requires.0, end_refused looked a.rollback a.tick c.in-Refuses.refusal (sym c.verdict.ensures ∙ c.in-Refuses.is))
+    (c.requires.0, end_refused looked a.rollback a.tick c.in-Err.refusal (sym c.verdict.ensures ∙ c.in-Err.is))
 
-pub returns-in-Passes : goal.returns-in-Passes
-returns-in-Passes c =
+pub returns-in-Ok : goal.returns-in-Ok
+returns-in-Ok c =
     let a = c.args in
     let standing = c.look-standing.result in
     let found = view a.size a.words.now a.bytes.now a.marks.now in
@@ -35,5 +35,5 @@ returns-in-Passes c =
     let fits = c.settle.ensures.0 in (
       (fits.0, fits.1, c.store_live.ensures.0),
       (λ i. record { tables = c.store_live.ensures.1 c.settle.new.words c.settle.new.bytes i; reply = accepted (10 + standing.bytes); buffer = c.record.new.buf })
-          ∙ end_passed looked a.rollback a.tick (sym c.verdict.ensures ∙ c.in-Passes.is) _ _ c.settle.ensures.1 c.record.ensures,
+          ∙ end_passed looked a.rollback a.tick (sym c.verdict.ensures ∙ c.in-Ok.is) _ _ c.settle.ensures.1 c.record.ensures,
     )

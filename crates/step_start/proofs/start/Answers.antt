@@ -8,17 +8,17 @@ declare_all-requires c =
     let a = c.args in
     let judged : Judged a.size (view a.size a.words.now a.bytes.now a.marks.now) a.slot.0 c.keep_in_range-s.result a.list.now c.live_at.result c.verdict.result =
     record { right_slot = c.keep_in_range-s.ensures.1; is_live = c.live_at.ensures; is_verdict = c.verdict.ensures } in
-    (c.clear.ensures.0, c.keep_in_range-s.ensures.0, list_within judged c.in-Passes.is)
+    (c.clear.ensures.0, c.keep_in_range-s.ensures.0, list_within judged c.in-Ok.is)
 
-pub returns-in-Refuses : goal.returns-in-Refuses
-returns-in-Refuses c =
+pub returns-in-Err : goal.returns-in-Err
+returns-in-Err c =
     let a = c.args in
     let judged : Judged a.size (view a.size a.words.now a.bytes.now a.marks.now) a.slot.0 c.keep_in_range-s.result a.list.now c.live_at.result c.verdict.result =
     record { right_slot = c.keep_in_range-s.ensures.1; is_live = c.live_at.ensures; is_verdict = c.verdict.ensures } in
-    (c.requires.0, start_refused judged c.in-Refuses.is)
+    (c.requires.0, start_refused judged c.in-Err.is)
 
-pub returns-in-Passes : goal.returns-in-Passes
-returns-in-Passes c =
+pub returns-in-Ok : goal.returns-in-Ok
+returns-in-Ok c =
     let a = c.args in
     let size = a.size in
     let judged : Judged size (view size a.words.now a.bytes.now a.marks.now) a.slot.0 c.keep_in_range-s.result a.list.now c.live_at.result c.verdict.result =
@@ -27,7 +27,7 @@ returns-in-Passes c =
     let w = c.declare_all.new.words in
     let b = c.declare_all.new.bytes in (
       (fits.0, fits.1, c.store_live.ensures.0),
-      start_passed judged c.in-Passes.is (view size c.clear.new.words c.clear.new.bytes c.clear.new.marks)
+      start_passed judged c.in-Ok.is (view size c.clear.new.words c.clear.new.bytes c.clear.new.marks)
           (view size w b c.declare_all.new.marks) (view size w b c.store_live.new.marks)
           c.clear.ensures.1 c.declare_all.ensures.1 (c.store_live.ensures.1 w b),
     )

@@ -1,8 +1,7 @@
 -- What a function leaves in the lists that it is lent, by the tables that they stand for.
 use Rattle.std.specs.Prelude.{ℕ, Bool, ◌&&◌, List, ◌≡◌, length}
-use Rattle.answers.specs.Numbers.{reply_of}
+use Rattle.answers.specs.Numbers.{reply_of, Answer}
 use Rattle.answers.specs.Order.{pick}
-use Rattle.answers.specs.declared.Answer.{Answer}
 use Rattle.counters.specs.Sizes.{Size}
 use Rattle.objects.specs.Places.{spoiled_pair}
 use Rattle.rules.specs.Tables.{State, live_at, pair_at, with_pair}

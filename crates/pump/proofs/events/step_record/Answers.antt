@@ -2,8 +2,7 @@
 use Rattle.std.proofs.Common.{ℕ, List, ap, ◌∙◌}
 use Rattle.counters.specs.Sizes.{base}
 use Rattle.record_layout.proofs.Telling.{reading_tells}
-use Rattle.record_layout.specs.Reading.{list_in}
-use Rattle.record_layout.specs.declared.fields.Reading.{Reading}
+use Rattle.record_layout.specs.Reading.{list_in, Reading}
 use Rattle.rules.specs.Steps.{read_step}
 use Rattle.pump.specs.Held.{held}
 use Rattle.pump.proofs.events.step_record.Goals as goal
