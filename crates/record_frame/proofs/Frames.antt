@@ -1,10 +1,12 @@
 -- What a framing tells of the body, its place and the reading.
+use Rattle.record_layout.specs.declared.fields.Frame.{Frame}
+use Rattle.record_layout.proofs.Telling.{within_ok}
 use Rattle.record_layout.specs.Reading.{framed_as, length_field, kind_field, frame_rules, framing, body, body_place, reading, reading_of, Framing, Reading}
-use Rattle.std.specs.Prelude.{Err}
+use Rattle.std.specs.Prelude.{Err, Ok}
 use Prim.Native.Nat.{ℕ, ◌+◌, ◌≤◌}
 use mathlib.Core.List.{List, []}
 use mathlib.Core.Logic.{◌⊎◌, inl, inr}
-use mathlib.Core.Path.{◌≡◌, ◌∙◌}
+use mathlib.Core.Path.{◌≡◌, ◌∙◌, sym, ap}
 use lib.ListN.{length, take, drop}
 use native.Mathlib.Omega.{arith}
 use Rattle.answers.proofs.Deciding.{Accepts, OneHolds, decided}
@@ -19,14 +21,14 @@ pub record IsWhole (z : Size) (s : List ℕ) (length_told number : ℕ) : Type 0
   pub place_is : body_place z s ≡ 4
   pub reading_is : reading z s ≡ reading_of z (kind_of number) (body z s)
 
-pub whole : (z : Size) (s : List ℕ) (told number : ℕ) → framing z s ≡ framed_as told number → IsWhole z s told number
-whole z s told number e = go (decided (frame_rules z s))
+pub whole : (z : Size) (s : List ℕ) (frame : Frame) → framing z s ≡ Ok frame → IsWhole z s frame.length frame.number
+whole z s frame e = go (decided (frame_rules z s))
   where
-    go : Accepts (frame_rules z s) ⊎ OneHolds (frame_rules z s) → IsWhole z s told number
+    go : Accepts (frame_rules z s) ⊎ OneHolds (frame_rules z s) → IsWhole z s frame.length frame.number
     go (inl a) =
-        let same = a.gives Err (framed_as (length_field s) (kind_field s)) in
-        let long : length_field s ≡ told = cc same in
-        let kind : kind_field s ≡ number = cc same in
+        let same = within_ok _ _ (sym (a.gives Err (framed_as (length_field s) (kind_field s))) ∙ e) in
+        let long : length_field s ≡ frame.length = ap (λ (f : Frame). f.length) same in
+        let kind : kind_field s ≡ frame.number = ap (λ (f : Frame). f.number) same in
         record {
           is_there = rw (← long) (frame_fits z s a.passes).all_there;
           body_is = rw (← long) (a.gives (λ refusal. []) (take (length_field s) (drop 4 s)));

@@ -1,7 +1,8 @@
 -- Equal tellings come from equal framings and equal readings: no second answer fits a promise on what is told.
+use Rattle.answers.specs.declared.Refusal.{Refusal}
 use Rattle.record_layout.specs.declared.kind.Kind.{Kind}
 use Rattle.record_layout.specs.Reading.{read_as, framed_as, Framing, Reading}
-use Rattle.std.specs.Prelude.{Option, Some, None, Ok, Err}
+use Rattle.std.specs.Prelude.{Option, Some, None, Ok, Err, Result}
 use Prim.Native.Nat.{ℕ}
 use mathlib.Core.Bool.{true, false}
 use mathlib.Core.List.{List, [], ◌∷◌}
@@ -67,3 +68,12 @@ framing_tells f g same = sym (framing_back f) ∙ ap (λ (told : Told). framing_
 
 pub reading_tells : (r s : Reading) → told_by_reading r ≡ told_by_reading s → r ≡ s
 reading_tells r s same = sym (reading_back r) ∙ ap (λ (told : Told). reading_from (answer told) told.values) same ∙ reading_back s
+
+result_or : {A : Type 0} → A → Result A Refusal → A
+result_or otherwise (Ok a) = a
+result_or otherwise (Err refusal) = otherwise
+
+-- equal frames, or equal records, stand in equal framings and readings
+pub within_ok : {A : Type 0} (a b : A) → ◌≡◌ {A = Result A Refusal} (Ok a) (Ok b) → a ≡ b
+unfolding result_or
+within_ok a b same = ap (result_or a) same

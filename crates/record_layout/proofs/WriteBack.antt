@@ -1,4 +1,5 @@
 -- Whatever reads is, byte for byte, what its fields would write.
+use Rattle.record_layout.proofs.Telling.{within_ok}
 use Rattle.record_layout.specs.declared.fields.Record.{Record}
 use Rattle.record_layout.specs.Reading.{read_as, length_field, kind_field, frame_rules, body, content_right, body_rules, reading_of, reading, list_in, listing, Reading}
 use Rattle.std.specs.Prelude.{Option, Some, None, Err, Ok}
@@ -102,11 +103,6 @@ rules_passed rules r f list taken read = go (decided rules)
     go (inl accepts) = (accepts.passes, sym (accepts.gives Err r) ∙ read)
     go (inr refuses) = let clash : ◌≡◌ {A = ℕ} 0 1 = cc (refuses.gives Err r) in absurd (omega arith)
 
--- the record of a reading, and another where it is refused
-abbrev read_or : Record → Reading → Record
-read_or otherwise (Ok read) = read
-read_or otherwise (Err refusal) = otherwise
-
 pub record_read_lem : (z : Size) (s : List ℕ) (f : Fields) (list taken : ℕ) → reading z s ≡ read_as f list taken → IsRead z s f list taken
 record_read_lem z s f list taken read = go (kind_of (kind_field s)) refl whole.1
   where
@@ -119,9 +115,10 @@ record_read_lem z s f list taken read = go (kind_of (kind_field s)) refl whole.1
         let b : List ℕ = body z s in
         let right = rules_passed (body_rules z k b) (read_as (fields_of k b) (list_place k) (4 + length b)) f list taken told in
         let found : Record = record { fields = fields_of k b; list = list_place k; taken = 4 + length b } in
-        let fields : fields_of k b ≡ f = ap (λ (r : Reading). (read_or found r).fields) right.1 in
-        let place : list_place k ≡ list = ap (λ (r : Reading). (read_or found r).list) right.1 in
-        let ends : 4 + length b ≡ taken = ap (λ (r : Reading). (read_or found r).taken) right.1 in
+        let told_same : found ≡ record { fields = f; list = list; taken = taken } = within_ok _ _ right.1 in
+        let fields : fields_of k b ≡ f = ap (λ (r : Record). r.fields) told_same in
+        let place : list_place k ≡ list = ap (λ (r : Record). r.list) told_same in
+        let ends : 4 + length b ≡ taken = ap (λ (r : Record). r.taken) told_same in
         let same : k ≡ kind_of_fields f = sym (kind_kept k b) ∙ ap kind_of_fields fields in
         record {
           frame_passes = whole.0;

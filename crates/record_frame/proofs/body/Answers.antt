@@ -13,13 +13,13 @@ returns-in_default c =
 
 pub slice_bounds-result-end-2 : goal.slice_bounds-result-end-2
 slice_bounds-result-end-2 c =
-    (whole base c.args.s.now c.in-Whole.length c.in-Whole.number (sym (framing_tells _ _ c.in-Whole.ensures))).is_there
+    (whole base c.args.s.now c.in-Ok.frame (sym (framing_tells _ _ c.in-Ok.ensures))).is_there
 
 pub returns : goal.returns
 returns c =
     let s = c.args.s.now in
-    let is_whole = whole base s c.in-Whole.length c.in-Whole.number (sym (framing_tells _ _ c.in-Whole.ensures)) in
+    let is_whole = whole base s c.in-Ok.frame (sym (framing_tells _ _ c.in-Ok.ensures)) in
     record {
-      bytes = ap (λ (n : ℕ). take n (drop 4 s)) (add-sub_cancel_left 4 c.in-Whole.length) ∙ sym is_whole.body_is;
+      bytes = ap (λ (n : ℕ). take n (drop 4 s)) (add-sub_cancel_left 4 c.in-Ok.frame.length) ∙ sym is_whole.body_is;
       place_is = rw is_whole.place_is;
     }
