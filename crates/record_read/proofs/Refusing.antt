@@ -1,4 +1,5 @@
 -- A reading refuses by one refusal alone.
+use Rattle.record_layout.specs.declared.kind.Kind.{Kind}
 use Rattle.record_layout.specs.Reading.{read_as, kind_field, frame_rules, body_rules, body, reading_of, reading, Reading}
 use Rattle.std.specs.Prelude.{Option, Some, None, Err, Ok}
 use Prim.Native.Nat.{ℕ, ◌+◌}

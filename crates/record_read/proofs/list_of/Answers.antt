@@ -7,12 +7,12 @@ use Rattle.record_read.proofs.list_of.Goals as goal
 
 pub slice_bounds-result-count : goal.slice_bounds-result-count
 slice_bounds-result-count c =
-    list_inside base c.args.s.now _ _ _ (sym (reading_tells _ _ c.requires) ∙ c.in-Record.is)
+    list_inside base c.args.s.now _ _ _ (sym (reading_tells _ _ c.requires) ∙ c.in-Ok.is)
 
 pub slice_bounds-result-start : goal.slice_bounds-result-start
 slice_bounds-result-start c =
-    list_inside base c.args.s.now _ _ _ (sym (reading_tells _ _ c.requires) ∙ c.in-Record.is)
+    list_inside base c.args.s.now _ _ _ (sym (reading_tells _ _ c.requires) ∙ c.in-Ok.is)
 
 pub slice_bounds-result-end-2 : goal.slice_bounds-result-end-2
 slice_bounds-result-end-2 c =
-    taken_inside base c.args.s.now _ _ _ (sym (reading_tells _ _ c.requires) ∙ c.in-Record.is)
+    taken_inside base c.args.s.now _ _ _ (sym (reading_tells _ _ c.requires) ∙ c.in-Ok.is)
