@@ -1,4 +1,6 @@
 -- The two tests are the two rules, and where both pass the lists meet as the definition's do.
+use Rattle.counters.specs.declared.Comparison.{Comparison}
+use Rattle.std.specs.Prelude.{Option, Ok}
 use Rattle.std.proofs.Common.{◌≡◌, ℕ, Bool, List, sym, ap, ◌∙◌}
 use Rattle.counters.specs.Sizes.{base}
 use Rattle.record_layout.proofs.Telling.{reading_tells}
@@ -37,6 +39,5 @@ returns c =
     let list_a = c.list_of.ensures.bytes ∙ ap (λ (r : Reading). list_in r a) (reading_tells _ _ c.read-read_a.ensures) in
     let list_b = c.list_of-2.ensures.bytes ∙ ap (λ (r : Reading). list_in r b) (reading_tells _ _ c.read-read_b.ensures) in
     ap order_of
-    (c.meeting.ensures
-    ∙ (λ i. meeting_of (entries_of (list_a i)) (entries_of (list_b i)))
+    (ap (λ (found : Option Comparison). Ok found) (c.meeting.ensures ∙ (λ i. meeting_of (entries_of (list_a i)) (entries_of (list_b i))))
     ∙ sym (both_meet base a b is_a is_b))
