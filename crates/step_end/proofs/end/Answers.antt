@@ -1,11 +1,12 @@
+use Rattle.std.proofs.lemmas.Result.{err_from_is_err_and}
 use Rattle.std.proofs.Common.{◌+◌, refl, sym, ◌∙◌, ltb, length}
 use Rattle.answers.specs.Numbers.{accepted}
 use Rattle.tables.specs.Views.{view}
 use Rattle.step_end.proofs.Ended.{LookedAtSlot, end_refused, end_passed}
 use Rattle.step_end.proofs.end.Goals as goal
 
-pub returns-in-Err : goal.returns-in-Err
-returns-in-Err c =
+pub returns-in_err-verdict : goal.returns-in_err-verdict
+returns-in_err-verdict c =
     let a = c.args in
     let standing = c.look-standing.result in
     let found = view a.size a.words.now a.bytes.now a.marks.now in
@@ -17,10 +18,11 @@ returns-in-Err c =
       is_standing = c.look-standing.ensures.0;
       is_short = refl;
     } in
-    (c.requires.0, end_refused looked a.rollback a.tick c.in-Err.refusal (sym c.verdict.ensures ∙ c.in-Err.is))
+    let refused = err_from_is_err_and c.from_residual.result c.from_residual.ensures.1 in
+    rw (refused.1, refused.2) (c.requires.0, end_refused looked a.rollback a.tick _ (sym c.verdict.ensures ∙ c.in_err-verdict.was))
 
-pub returns-in-Ok : goal.returns-in-Ok
-returns-in-Ok c =
+pub returns : goal.returns
+returns c =
     let a = c.args in
     let standing = c.look-standing.result in
     let found = view a.size a.words.now a.bytes.now a.marks.now in
@@ -35,5 +37,5 @@ returns-in-Ok c =
     let fits = c.settle.ensures.0 in (
       (fits.0, fits.1, c.store_live.ensures.0),
       (λ i. record { tables = c.store_live.ensures.1 c.settle.new.words c.settle.new.bytes i; reply = accepted (10 + standing.bytes); buffer = c.record.new.buf })
-          ∙ end_passed looked a.rollback a.tick (sym c.verdict.ensures ∙ c.in-Ok.is) _ _ c.settle.ensures.1 c.record.ensures,
+          ∙ end_passed looked a.rollback a.tick (sym c.verdict.ensures ∙ c.in_ok-verdict.was) _ _ c.settle.ensures.1 c.record.ensures,
     )
