@@ -7,7 +7,7 @@ ghost use Rattle.objects.specs.Places.{turn_of, given_out, let_go, settled, rest
 use counters::{CallCount, Turn, Version};
 
 // R4: what is kept of an object.
-#[derive(Clone, Copy)]
+#[derive(Clone, Copy, PartialEq, Eq)]
 pub struct Object {
     pub word: u32,
     pub global: Version,
@@ -16,7 +16,7 @@ pub struct Object {
 }
 
 // R4: what is kept of a slot and an object.
-#[derive(Clone, Copy)]
+#[derive(Clone, Copy, PartialEq, Eq)]
 pub struct Pair {
     pub declared: bool,
     pub supremum: u8,
