@@ -1,4 +1,3 @@
 pub mod Digits
 pub mod Making
-pub mod Moving
 pub mod Unique

@@ -6,14 +6,9 @@ ghost use Rattle.bench_lines.specs.Buffers.{lent, moved_to_front};
 pub fn to_front(buf: &mut [u8], from: usize) -> usize
     ensures { lent result buf.new ≡ moved_to_front buf.old from }
 {
-    if buf.len() < from {
+    let Some(count) = buf.len().checked_sub(from) else {
         return 0;
-    }
-    let count = buf.len() - from;
-    let mut at: usize = 0;
-    while at < count {
-        buf[at] = buf[from + at];
-        at = at + 1;
-    }
+    };
+    buf.copy_within(from.., 0);
     count
 }

@@ -19,11 +19,11 @@ pub struct Size {
 }
 
 // R2: a version, modulo 2^32.
-#[derive(Clone, Copy)]
+#[derive(Clone, Copy, PartialEq, Eq)]
 pub struct Version(pub u32);
 
 // R3: the count of a pair.
-#[derive(Clone, Copy)]
+#[derive(Clone, Copy, PartialEq, Eq)]
 pub struct CallCount(pub u8);
 
 #[derive(Clone, Copy)]
@@ -54,31 +54,25 @@ impl Version {
     pub fn next(self) -> Version
         ensures { result.0 ≡ next self.0 }
     {
-        Version(std::num::wrapping_add_u32(self.0, 1))
+        Version(self.0.wrapping_add(1))
     }
 
     // R2: self minus other.
     pub fn minus(self, other: Version) -> u32
         ensures { result ≡ difference self.0 other.0 }
     {
-        std::num::wrapping_sub_u32(self.0, other.0)
+        self.0.wrapping_sub(other.0)
     }
 
     // R8: the turn, where self is the private version.
     pub fn turn(self, local: Version, slots: u8) -> Turn
         ensures { result ≡ turn_at slots (difference self.0 local.0) }
     {
-        let d = self.minus(local);
-        if d == 1 {
-            return Turn::Now;
+        match self.minus(local) {
+            1 => Turn::Now,
+            d if 2 <= d && d <= slots as u32 => Turn::Wait,
+            _ => Turn::Released,
         }
-        if d < 2 {
-            return Turn::Released;
-        }
-        if d <= slots as u32 {
-            return Turn::Wait;
-        }
-        Turn::Released
     }
 
     // R9: on one object, where self is the private version.
@@ -92,16 +86,11 @@ impl Version {
     pub fn compare(self, other: Version) -> Comparison
         ensures { result ≡ compared self.0 other.0 }
     {
-        let e = other.minus(self);
-        if e == 0 {
-            return Comparison::Same;
+        match other.minus(self) {
+            0 => Comparison::Same,
+            1..=2147483647 => Comparison::A,
+            2147483648 => Comparison::Far,
+            _ => Comparison::B,
         }
-        if e < 2147483648 {
-            return Comparison::A;
-        }
-        if e == 2147483648 {
-            return Comparison::Far;
-        }
-        Comparison::B
     }
 }

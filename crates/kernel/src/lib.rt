@@ -10,6 +10,7 @@ ghost use Rattle.kernel.specs.Border.{given, given_with};
 
 pub mod shown;
 
+use answers::Reply;
 use counters::{ObjectNo, SlotNo, Version};
 
 // R7: fresh tables.
@@ -37,7 +38,7 @@ pub extern "C" fn gustlantern_raw_start(
 ) -> u32
     ensures { given words.new bytes.new marks.new result 0 ≡ start_step base (held words.old bytes.old marks.old) slot list.now }
 {
-    pump::start(words, bytes, marks, SlotNo(slot), list).number()
+    Reply::from(pump::start(words, bytes, marks, SlotNo(slot), list)).number
 }
 
 // R13: a call.
@@ -63,8 +64,9 @@ pub extern "C" fn gustlantern_raw_call(
         kind,
         argument,
     );
-    *value = answer.value();
-    answer.number()
+    let reply = Reply::from(answer);
+    *value = reply.value;
+    reply.number
 }
 
 // R15: a release.
@@ -78,7 +80,7 @@ pub extern "C" fn gustlantern_raw_release(
 ) -> u32
     ensures { given words.new bytes.new marks.new result 0 ≡ release_step base (held words.old bytes.old marks.old) slot object }
 {
-    pump::release(words, bytes, marks, SlotNo(slot), ObjectNo(object)).number()
+    Reply::from(pump::release(words, bytes, marks, SlotNo(slot), ObjectNo(object))).number
 }
 
 // R16: a commit.
@@ -95,8 +97,9 @@ pub extern "C" fn gustlantern_raw_commit(
     ensures { given_with words.new bytes.new marks.new result value.new ends.new ≡ end_step base false (held words.old bytes.old marks.old) slot tick ends.old }
 {
     let answer = pump::end(words, bytes, marks, SlotNo(slot), tick, false, ends);
-    *value = answer.value();
-    answer.number()
+    let reply = Reply::from(answer);
+    *value = reply.value;
+    reply.number
 }
 
 // R17: a rollback.
@@ -113,8 +116,9 @@ pub extern "C" fn gustlantern_raw_rollback(
     ensures { given_with words.new bytes.new marks.new result value.new ends.new ≡ end_step base true (held words.old bytes.old marks.old) slot tick ends.old }
 {
     let answer = pump::end(words, bytes, marks, SlotNo(slot), tick, true, ends);
-    *value = answer.value();
-    answer.number()
+    let reply = Reply::from(answer);
+    *value = reply.value;
+    reply.number
 }
 
 // R31: the event whose record stands at the first byte.
@@ -130,6 +134,7 @@ pub extern "C" fn gustlantern_raw_step(
     ensures { given_with words.new bytes.new marks.new result value.new ends.new ≡ record_step base (held words.old bytes.old marks.old) from.now ends.old }
 {
     let answer = pump::events::step_record(words, bytes, marks, from, ends);
-    *value = answer.value();
-    answer.number()
+    let reply = Reply::from(answer);
+    *value = reply.value;
+    reply.number
 }

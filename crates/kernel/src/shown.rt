@@ -10,7 +10,7 @@ ghost use Rattle.tables.specs.Views.{objects_of, live_of};
 ghost use Rattle.pump.specs.Looks.{pair_seen};
 ghost use Rattle.kernel.specs.Shown.{Look, looked, bit_of, object_words, pair_words, look_object_rules, look_pair_rules, marks_hold};
 
-use answers::{Answer, Refusal};
+use answers::{Answer, Refusal, Reply};
 use counters::{Comparison, OBJECTS, ObjectNo, SLOTS, SlotNo};
 use objects::{Object, Pair};
 use pump::looks;
@@ -21,20 +21,19 @@ use record_order::CameFirst;
 pub extern "C" fn gustlantern_raw_came_first(a: &[u8], b: &[u8], order: &mut u32) -> u32
     ensures { ◌≡◌ {A = Reply} (record { number = result; value = order.new }) (order_of (came_first base a.now b.now)) }
 {
-    let answer = as_numbers(record_order::came_first(a, b));
-    *order = answer.value();
-    answer.number()
+    let reply = Reply::from(as_numbers(record_order::came_first(a, b)));
+    *order = reply.value;
+    reply.number
 }
 
 // R38: the answer of two records as numbers.
 fn as_numbers(found: CameFirst) -> Answer
     ensures { reply_of result ≡ order_of found }
 {
-    match found {
-        CameFirst::Compared(comparison) => Ok(code(comparison)),
-        CameFirst::Unrelated => Ok(5),
-        CameFirst::Refused(refusal) => Err(refusal),
-    }
+    Ok(match found? {
+        Some(comparison) => code(comparison),
+        None => 5,
+    })
 }
 
 // R38: the number of a comparison.
@@ -55,7 +54,7 @@ pub extern "C" fn gustlantern_raw_object(words: &[u32; 864], object: u8, seen: &
     ensures { ◌≡◌ {A = Look} (record { number = result; words = seen.new }) (looked (look_object_rules object) seen.old (object_words (get_or (objects_of base words.now) object no_object))) }
 {
     if OBJECTS <= object {
-        return Refusal::BadObject.number();
+        return Refusal::BadObject.into();
     }
     show_object(looks::object(words, ObjectNo(object)), seen);
     0
@@ -87,10 +86,10 @@ pub extern "C" fn gustlantern_raw_pair(
     ensures { ◌≡◌ {A = Look} (record { number = result; words = seen.new }) (looked (look_pair_rules slot object) seen.old (pair_words (get_or (live_of base marks.now) slot false) (pair_seen words.now bytes.now marks.now slot object))) }
 {
     if SLOTS <= slot {
-        return Refusal::BadSlot.number();
+        return Refusal::BadSlot.into();
     }
     if OBJECTS <= object {
-        return Refusal::BadObject.number();
+        return Refusal::BadObject.into();
     }
     let live = looks::live(marks, SlotNo(slot));
     let pair = looks::pair(words, bytes, marks, SlotNo(slot), ObjectNo(object));

@@ -82,64 +82,38 @@ fn turn(size: Size, pair: Pair, object: Object) -> Verdict
 pub fn object(object: Object, pair: Pair, word: u32) -> Object
     ensures { result ≡ called_object word pair object }
 {
-    let global = object.global;
-    let terminal = object.terminal;
+    let called = Object { word, ..object };
     if reaches(pair) {
-        let private = pair.private;
-        return Object {
-            word,
-            global,
-            local: private,
-            terminal,
-        };
+        return called.let_go(pair.private);
     }
-    let local = object.local;
-    Object {
-        word,
-        global,
-        local,
-        terminal,
-    }
+    called
 }
 
 // On the first call the word is saved; the count rises.
 pub fn pair(pair: Pair, object: Object) -> Pair
     ensures { result ≡ called_pair pair object }
 {
-    let private = pair.private;
-    let count = CallCount(count_after(pair));
-    let mut next = Pair {
-        declared: pair.declared,
-        supremum: pair.supremum,
-        private,
-        count,
+    Pair {
+        count: CallCount(count_after(pair)),
         called: true,
-        spoiled: pair.spoiled,
-        saved: pair.saved,
-    };
-    if !pair.called {
-        next.saved = object.word;
+        saved: if pair.called { pair.saved } else { object.word },
+        ..pair
     }
-    next
 }
 
 // The count after one more call: unless the supremum is 0 it rises by one, modulo 256.
 fn count_after(pair: Pair) -> u8
     ensures { result ≡ count_after pair }
 {
-    let count = pair.count;
     if pair.supremum == 0 {
-        return count.0;
+        return pair.count.0;
     }
-    std::num::wrapping_add_u8(count.0, 1)
+    pair.count.0.wrapping_add(1)
 }
 
 // Whether one more call reaches the supremum.
 fn reaches(pair: Pair) -> bool
     ensures { result ≡ reaches pair }
 {
-    if pair.supremum == 0 {
-        return false;
-    }
-    count_after(pair) == pair.supremum
+    pair.supremum != 0 && count_after(pair) == pair.supremum
 }

@@ -10,7 +10,7 @@ ghost use Rattle.leaf_end.specs.Serving.Standings.{standing_of_none, standing_wi
 ghost use Rattle.objects.specs.Places.{restores};
 ghost use Rattle.leaf_end.specs.Serving.Ends.{ended_object, slots_asked};
 
-use answers::{Refusal, Verdict, either};
+use answers::{Refusal, Verdict};
 use counters::{Size, SlotNo};
 use objects::{Object, Pair};
 
@@ -41,8 +41,8 @@ impl Standing {
         ensures { (o : ℕ) → result ≡ standing_with o pair object self }
     {
         Standing {
-            doomed: either(self.doomed, pair.spoiled),
-            unmet: either(self.unmet, misses(pair, object)),
+            doomed: self.doomed | pair.spoiled,
+            unmet: self.unmet | misses(pair, object),
             bytes: self.bytes + entry_bytes(pair),
         }
     }
@@ -62,11 +62,7 @@ fn entry_bytes(pair: Pair) -> u16
 fn misses(pair: Pair, object: Object) -> bool
     ensures { result ≡ misses pair object }
 {
-    if !pair.declared {
-        return false;
-    }
-    let terminal = object.terminal;
-    !pair.private.meets_terminal_need(terminal)
+    pair.declared && !pair.private.meets_terminal_need(object.terminal)
 }
 
 // R21: the rules of a commit and of a rollback.
@@ -112,10 +108,7 @@ fn last(unmet: bool, short: bool) -> Verdict
 fn puts_back(rollback: bool, pair: Pair) -> bool
     ensures { result ≡ (rollback && restores pair) }
 {
-    if !rollback {
-        return false;
-    }
-    pair.restores()
+    rollback && pair.restores()
 }
 
 // R16, R17: the object behind an end.

@@ -1,5 +1,4 @@
-// The machine by value: its tables go in with an event, and the new tables come back with the answer. Each step is one copy in and one
-// out around the step in place.
+// The machine by value: its tables go in with an event, and the new tables come back with the answer.
 #![tactic(auto)]
 
 ghost use Rattle.std.specs.Prelude.{true, false, ◌≡◌};
@@ -25,55 +24,52 @@ pub struct Stepped {
 }
 
 impl Tables {
-    pub fn start(self, slot: SlotNo, list: &[u8]) -> Stepped
+    pub fn start(mut self, slot: SlotNo, list: &[u8]) -> Stepped
         ensures { told result ≡ start_step base (view self) slot.0 list.now }
     {
-        let mut words = self.words;
-        let mut bytes = self.bytes;
-        let mut marks = self.marks;
-        let answer = pump::start(&mut words, &mut bytes, &mut marks, slot, list);
-        Stepped {
-            tables: Tables {
-                words,
-                bytes,
-                marks,
-            },
-            answer,
-        }
-    }
-
-    pub fn call(self, slot: SlotNo, number: ObjectNo, kind: u8, argument: u32) -> Stepped
-        ensures { told result ≡ call_step base (view self) slot.0 number.0 kind argument }
-    {
-        let mut words = self.words;
-        let mut bytes = self.bytes;
-        let mut marks = self.marks;
-        let answer = pump::call(
-            &mut words, &mut bytes, &mut marks, slot, number, kind, argument,
+        let answer = pump::start(
+            &mut self.words,
+            &mut self.bytes,
+            &mut self.marks,
+            slot,
+            list,
         );
         Stepped {
-            tables: Tables {
-                words,
-                bytes,
-                marks,
-            },
+            tables: self,
             answer,
         }
     }
 
-    pub fn release(self, slot: SlotNo, number: ObjectNo) -> Stepped
+    pub fn call(mut self, slot: SlotNo, number: ObjectNo, kind: u8, argument: u32) -> Stepped
+        ensures { told result ≡ call_step base (view self) slot.0 number.0 kind argument }
+    {
+        let answer = pump::call(
+            &mut self.words,
+            &mut self.bytes,
+            &mut self.marks,
+            slot,
+            number,
+            kind,
+            argument,
+        );
+        Stepped {
+            tables: self,
+            answer,
+        }
+    }
+
+    pub fn release(mut self, slot: SlotNo, number: ObjectNo) -> Stepped
         ensures { told result ≡ release_step base (view self) slot.0 number.0 }
     {
-        let mut words = self.words;
-        let mut bytes = self.bytes;
-        let mut marks = self.marks;
-        let answer = pump::release(&mut words, &mut bytes, &mut marks, slot, number);
+        let answer = pump::release(
+            &mut self.words,
+            &mut self.bytes,
+            &mut self.marks,
+            slot,
+            number,
+        );
         Stepped {
-            tables: Tables {
-                words,
-                bytes,
-                marks,
-            },
+            tables: self,
             answer,
         }
     }
@@ -90,21 +86,20 @@ impl Tables {
         self.end(slot, tick, true, buf)
     }
 
-    fn end(self, slot: SlotNo, tick: u32, rollback: bool, buf: &mut [u8]) -> Stepped
+    fn end(mut self, slot: SlotNo, tick: u32, rollback: bool, buf: &mut [u8]) -> Stepped
         ensures { told_with result buf.new ≡ end_step base rollback (view self) slot.0 tick buf.old }
     {
-        let mut words = self.words;
-        let mut bytes = self.bytes;
-        let mut marks = self.marks;
         let answer = pump::end(
-            &mut words, &mut bytes, &mut marks, slot, tick, rollback, buf,
+            &mut self.words,
+            &mut self.bytes,
+            &mut self.marks,
+            slot,
+            tick,
+            rollback,
+            buf,
         );
         Stepped {
-            tables: Tables {
-                words,
-                bytes,
-                marks,
-            },
+            tables: self,
             answer,
         }
     }

@@ -7,7 +7,7 @@ ghost use Rattle.objects.specs.Places.{turn_of, given_out, let_go, settled, rest
 use counters::{CallCount, Turn, Version};
 
 // R4: what is kept of an object.
-#[derive(Clone, Copy)]
+#[derive(Clone, Copy, PartialEq, Eq)]
 pub struct Object {
     pub word: u32,
     pub global: Version,
@@ -16,7 +16,7 @@ pub struct Object {
 }
 
 // R4: what is kept of a slot and an object.
-#[derive(Clone, Copy)]
+#[derive(Clone, Copy, PartialEq, Eq)]
 pub struct Pair {
     pub declared: bool,
     pub supremum: u8,
@@ -32,14 +32,9 @@ impl Object {
     pub fn give_out(self) -> Object
         ensures { result ≡ given_out self }
     {
-        let global = self.global.next();
-        let local = self.local;
-        let terminal = self.terminal;
         Object {
-            word: self.word,
-            global,
-            local,
-            terminal,
+            global: self.global.next(),
+            ..self
         }
     }
 
@@ -47,13 +42,9 @@ impl Object {
     pub fn let_go(self, private: Version) -> Object
         ensures { result ≡ let_go private self }
     {
-        let global = self.global;
-        let terminal = self.terminal;
         Object {
-            word: self.word,
-            global,
             local: private,
-            terminal,
+            ..self
         }
     }
 
@@ -61,28 +52,13 @@ impl Object {
     pub fn end(self, pair: Pair, slots: u8) -> Object
         ensures { result ≡ settled slots pair self }
     {
-        let private = pair.private;
-        let global = self.global;
-        let local = self.local;
+        let ended = Object {
+            terminal: pair.private,
+            ..self
+        };
         match pair.turn(self, slots) {
-            Turn::Now => Object {
-                word: self.word,
-                global,
-                local: private,
-                terminal: private,
-            },
-            Turn::Wait => Object {
-                word: self.word,
-                global,
-                local: private,
-                terminal: private,
-            },
-            Turn::Released => Object {
-                word: self.word,
-                global,
-                local,
-                terminal: private,
-            },
+            Turn::Now | Turn::Wait => ended.let_go(pair.private),
+            Turn::Released => ended,
         }
     }
 
@@ -90,14 +66,9 @@ impl Object {
     pub fn restore(self, pair: Pair) -> Object
         ensures { result ≡ restored pair self }
     {
-        let global = self.global;
-        let local = self.local;
-        let terminal = self.terminal;
         Object {
             word: pair.saved,
-            global,
-            local,
-            terminal,
+            ..self
         }
     }
 }
@@ -126,10 +97,7 @@ impl Pair {
             declared: true,
             supremum,
             private,
-            count: CallCount(0),
-            called: false,
-            spoiled: false,
-            saved: 0,
+            ..Pair::none()
         }
     }
 
@@ -137,19 +105,13 @@ impl Pair {
     pub fn turn(self, object: Object, slots: u8) -> Turn
         ensures { result ≡ turn_of slots self object }
     {
-        let local = object.local;
-        self.private.turn(local, slots)
+        self.private.turn(object.local, slots)
     }
 
     // R17: whether a rollback puts the saved word back.
     pub fn restores(self) -> bool
         ensures { result ≡ restores self }
     {
-        if self.declared {
-            if self.called {
-                return !self.spoiled;
-            }
-        }
-        false
+        self.declared && self.called && !self.spoiled
     }
 }
