@@ -10,7 +10,7 @@ mod records;
 
 use answers::{Answer, Refusal};
 use counters::Version;
-use record_layout::fields::{Fields, Reading};
+use record_layout::fields::Fields;
 
 // What a record gives beside the tables: the answer, whether it prints a line, whether it stops the program, and the
 // bytes that it takes.
@@ -31,26 +31,15 @@ pub fn first(
 ) -> Answered
     ensures { answered (held words.new counts.new marks.new) result ≡ first_step base bytes.now }
 {
-    let read = record_read::read(bytes);
-    let Reading::Record {
-        fields,
-        list,
-        taken,
-    } = read
-    else {
-        return not_fresh(words, counts, marks, read.refusal());
+    let record = match record_read::read(bytes) {
+        Ok(record) => record,
+        Err(refusal) => return not_fresh(words, counts, marks, refusal),
     };
-    match fields {
-        Fields::Fresh { first } => {
-            fresh(words, counts, marks, first, &bytes[list..taken], taken)
-        }
-        Fields::Event(_) => not_fresh(words, counts, marks, Refusal::BadRecord),
-        Fields::Ended {
-            tick: _,
-            slot: _,
-            rollback: _,
-        } => not_fresh(words, counts, marks, Refusal::BadRecord),
-    }
+    let Fields::Fresh { first } = record.fields else {
+        return not_fresh(words, counts, marks, Refusal::BadRecord);
+    };
+    let list = &bytes[record.list..record.taken];
+    fresh(words, counts, marks, first, list, record.taken)
 }
 
 fn fresh(

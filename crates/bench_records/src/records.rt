@@ -10,30 +10,20 @@ use record_layout::fields::{Fields, Reading};
 pub fn taken(read: Reading) -> usize
     ensures { result ≡ taken_by read }
 {
-    let Reading::Record {
-        fields: _,
-        list: _,
-        taken,
-    } = read
-    else {
+    let Ok(record) = read else {
         return 0;
     };
-    taken
+    record.taken
 }
 
 // Behind the first record all but an event stops the program.
 pub fn stops(read: Reading) -> bool
     ensures { result ≡ stops_at read }
 {
-    let Reading::Record {
-        fields,
-        list: _,
-        taken: _,
-    } = read
-    else {
+    let Ok(record) = read else {
         return true;
     };
-    match fields {
+    match record.fields {
         Fields::Fresh { first: _ } => true,
         Fields::Event(_) => false,
         Fields::Ended {

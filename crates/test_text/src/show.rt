@@ -3,7 +3,7 @@
 ghost use Rattle.std.specs.Prelude.{◌<◌};
 
 use crate::scan::{after, before, first};
-use answers::Answer;
+use answers::{Answer, Reply};
 
 pub fn words(text: &[u8]) {
     io::write_all(1, text);
@@ -29,7 +29,8 @@ pub fn number(n: u32) {
 
 // The number of R20, and the value.
 pub fn answer(answer: Answer) {
-    sentence(b": _ _", &[answer.number(), answer.value()]);
+    let reply = Reply::from(answer);
+    sentence(b": _ _", &[reply.number, reply.value]);
 }
 
 // The number of a kind.

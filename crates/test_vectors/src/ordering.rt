@@ -10,9 +10,9 @@ pub fn order(a: &[u8], b: &[u8]) {
 
 fn came(came: CameFirst) {
     match came {
-        CameFirst::Compared(comparison) => compared(comparison),
-        CameFirst::Unrelated => words(b"Unrelated"),
-        CameFirst::Refused(refusal) => number(refusal.number()),
+        Ok(Some(comparison)) => compared(comparison),
+        Ok(None) => words(b"Unrelated"),
+        Err(refusal) => number(refusal.into()),
     }
 }
 

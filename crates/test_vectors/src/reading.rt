@@ -13,19 +13,15 @@ pub fn read(s: &[u8]) {
 
 fn frame(framing: Framing) {
     match framing {
-        Framing::Whole { length: _, number } => kind(number),
-        Err(refusal) => number(refusal.number()),
+        Ok(frame) => kind(frame.number),
+        Err(refusal) => number(refusal.into()),
     }
 }
 
 fn reading(reading: Reading) {
     match reading {
-        Reading::Record {
-            fields,
-            list: _,
-            taken: _,
-        } => told(fields),
-        Err(refusal) => number(refusal.number()),
+        Ok(record) => told(record.fields),
+        Err(refusal) => number(refusal.into()),
     }
 }
 

@@ -1,49 +1,59 @@
 -- What was read tells as the reading does, so it is the reading, and the first record gives what that reading gives.
-use Rattle.record_layout.specs.Reading.{read_as, reading, list_in, refusal_of, Reading}
-use Rattle.std.proofs.Common.{◌≡◌, ℕ, List, length, sym, ap, ◌∙◌}
+use Rattle.std.specs.Prelude.{Ok, Err}
+use Rattle.std.proofs.Common.{◌≡◌, ℕ, List, length, refl, sym, ap, ◌∙◌}
+use Rattle.answers.specs.declared.Refusal.TheVariants.{BadRecord}
 use Rattle.counters.specs.Sizes.{base}
+use Rattle.counters.specs.declared.Version.{Version}
 use Rattle.record_layout.proofs.Telling.{reading_tells}
 use Rattle.record_layout.proofs.WriteBack.{list_inside, taken_inside, list_long}
-use Rattle.record_layout.specs.Telling.{told_by_reading}
+use Rattle.record_layout.specs.Reading.{read_as, reading, list_in, Reading}
 use Rattle.record_layout.specs.declared.fields.Fields.{Fields}
-use Rattle.bench_records.specs.Records.{not_fresh, first_read, first_step}
+use Rattle.record_layout.specs.declared.fields.Record.{Record}
+use Rattle.bench_records.specs.Records.{not_fresh, first_fields, first_read, first_step}
 use Rattle.bench_records.proofs.first.Goals as goal
 
 -- what the first record gives, by what it reads as
 known : (bytes : List ℕ) (r : Reading) → reading base bytes ≡ r → first_read base r (list_in r bytes) ≡ first_step base bytes
 known bytes r e = sym (ap (λ (r : Reading). first_read base r (list_in r bytes)) e)
 
--- the record that was told, with the fields that it is matched as
-is_read : (bytes : List ℕ) (f g : Fields) (at taken : ℕ) → told_by_reading (read_as f at taken) ≡ told_by_reading (reading base bytes) → f ≡ g
-    → reading base bytes ≡ read_as g at taken
-is_read bytes f g at taken told same = sym (reading_tells _ _ told) ∙ ap (λ (f : Fields). read_as f at taken) same
+-- any other record than a fresh one is refused
+not_opened : (r : Record) (list : List ℕ) → ((first : Version) → r.fields ≡ Fields.Fresh first → ⊥) → not_fresh base BadRecord ≡ first_read base (Ok r) list
+not_opened r list other = go r.fields (λ first e. other first e)
+  where
+    go : (fields : Fields) → ((first : Version) → fields ≡ Fields.Fresh first → ⊥) → not_fresh base BadRecord ≡ first_fields base fields list r.taken
+    go (Fields.Fresh first) other = absurd (other first refl)
+    go (Fields.Event event) other = refl
+    go (Fields.Ended tick slot rollback) other = refl
+
+pub returns-in-Err : goal.returns-in-Err
+returns-in-Err c = c.not_fresh.ensures ∙ known c.args.bytes.now _ (sym (reading_tells _ _ c.read.ensures) ∙ c.in-Err.is)
 
 pub returns-in_default : goal.returns-in_default
 returns-in_default c =
-    c.not_fresh.ensures
-    ∙ ap (not_fresh base) (c.refusal.ensures ∙ ap refusal_of c.in_default.is)
-    ∙ known c.args.bytes.now _ (sym (reading_tells _ _ c.read-read.ensures) ∙ c.in_default.is)
+    let bytes = c.args.bytes.now in
+    let record_is = sym (reading_tells _ _ c.read.ensures) ∙ c.in-Ok.is in
+    c.not_fresh-in_default.ensures ∙ not_opened c.in-Ok.record (list_in (Ok c.in-Ok.record) bytes) c.in_default.not-Fresh ∙ known bytes _ record_is
 
-pub slice_bounds-fresh-count : goal.slice_bounds-fresh-count
-slice_bounds-fresh-count c = list_inside base c.args.bytes.now _ _ _ (is_read c.args.bytes.now _ _ _ _ c.in-Record.ensures c.in-Fresh.is)
+pub slice_bounds-list-count : goal.slice_bounds-list-count
+slice_bounds-list-count c = list_inside base c.args.bytes.now _ _ _ (sym (reading_tells _ _ c.read.ensures) ∙ c.in-Ok.is)
 
-pub slice_bounds-fresh-start : goal.slice_bounds-fresh-start
-slice_bounds-fresh-start c = list_inside base c.args.bytes.now _ _ _ (is_read c.args.bytes.now _ _ _ _ c.in-Record.ensures c.in-Fresh.is)
+pub slice_bounds-list-start : goal.slice_bounds-list-start
+slice_bounds-list-start c = list_inside base c.args.bytes.now _ _ _ (sym (reading_tells _ _ c.read.ensures) ∙ c.in-Ok.is)
 
-pub slice_bounds-fresh-end : goal.slice_bounds-fresh-end
-slice_bounds-fresh-end c = taken_inside base c.args.bytes.now _ _ _ (is_read c.args.bytes.now _ _ _ _ c.in-Record.ensures c.in-Fresh.is)
+pub slice_bounds-list-end : goal.slice_bounds-list-end
+slice_bounds-list-end c = taken_inside base c.args.bytes.now _ _ _ (sym (reading_tells _ _ c.read.ensures) ∙ c.in-Ok.is)
+
+-- the record with the fields that it is matched as
+as_fresh : (r : Record) (first : Version) → r.fields ≡ Fields.Fresh first → ◌≡◌ {A = Reading} (Ok r) (read_as (Fields.Fresh first) r.list r.taken)
+as_fresh r first e = ap (λ (f : Fields). read_as f r.list r.taken) e
 
 pub fresh-requires : goal.fresh-requires
 fresh-requires c =
     let s = c.args.bytes.now in
-    let e = is_read s _ _ _ _ c.in-Record.ensures c.in-Fresh.is in
+    let e = sym (reading_tells _ _ c.read.ensures) ∙ c.in-Ok.is ∙ as_fresh _ _ c.in-Fresh.is in
     sym (ap (λ (r : Reading). length (list_in r s)) e) ∙ list_long base s _ _ _ e
 
-pub returns-in-Fresh : goal.returns-in-Fresh
-returns-in-Fresh c = c.fresh.ensures ∙ known c.args.bytes.now _ (is_read c.args.bytes.now _ _ _ _ c.in-Record.ensures c.in-Fresh.is)
-
-pub returns-in-Event : goal.returns-in-Event
-returns-in-Event c = c.not_fresh-in-Event.ensures ∙ known c.args.bytes.now _ (is_read c.args.bytes.now _ _ _ _ c.in-Record.ensures c.in-Event.is)
-
-pub returns-in-Ended : goal.returns-in-Ended
-returns-in-Ended c = c.not_fresh-in-Ended.ensures ∙ known c.args.bytes.now _ (is_read c.args.bytes.now _ _ _ _ c.in-Record.ensures c.in-Ended.is)
+pub returns : goal.returns
+returns c =
+    c.fresh.ensures
+    ∙ known c.args.bytes.now _ (sym (reading_tells _ _ c.read.ensures) ∙ c.in-Ok.is ∙ as_fresh _ _ c.in-Fresh.is)
