@@ -40,17 +40,10 @@ pub fn first(
     else {
         return not_fresh(words, counts, marks, read.refusal());
     };
-    match fields {
-        Fields::Fresh { first } => {
-            fresh(words, counts, marks, first, &bytes[list..taken], taken)
-        }
-        Fields::Event(_) => not_fresh(words, counts, marks, Refusal::BadRecord),
-        Fields::Ended {
-            tick: _,
-            slot: _,
-            rollback: _,
-        } => not_fresh(words, counts, marks, Refusal::BadRecord),
-    }
+    let Fields::Fresh { first } = fields else {
+        return not_fresh(words, counts, marks, Refusal::BadRecord);
+    };
+    fresh(words, counts, marks, first, &bytes[list..taken], taken)
 }
 
 fn fresh(
