@@ -1,3 +1,4 @@
+pub mod EntryFirst
 pub mod EntryWalk
 pub mod DeclarationWalk
 pub mod Lengths

@@ -3,7 +3,7 @@ ghost use Rattle.std.specs.Prelude.{◌≤◌, length};
 
 use crate::reading;
 use counters::{ObjectNo, SlotNo, Version};
-use record_bytes::{byte, half, word};
+use record_bytes::{half, word};
 use record_layout::fields::{Event, Fields};
 use test_text::show;
 
@@ -15,14 +15,14 @@ pub fn write(s: &[u8]) {
     let fields = fields_of(s);
     show::words(b": ");
     reading::told(fields);
-    with_room(fields, &s[10..], byte(s, 9));
+    with_room(fields, &s[10..], s[9]);
 }
 
 // A kind's number, slot, object, kind of call, and version, argument or tick. What a kind has no field for is left out.
 fn fields_of(s: &[u8]) -> Fields
     requires { 10 ≤ length s.now }
 {
-    let slot = SlotNo(byte(s, 2));
+    let slot = SlotNo(s[2]);
     let number = word(s, 5);
     match half(s, 0) {
         0x0100 => Fields::Fresh {
@@ -45,15 +45,15 @@ fn fields_of(s: &[u8]) -> Fields
 fn event_of(s: &[u8]) -> Event
     requires { 10 ≤ length s.now }
 {
-    let slot = SlotNo(byte(s, 2));
-    let object = ObjectNo(byte(s, 3));
+    let slot = SlotNo(s[2]);
+    let object = ObjectNo(s[3]);
     let number = word(s, 5);
     match half(s, 0) {
         0x0101 => Event::Start { slot },
         0x0102 => Event::Call {
             slot,
             object,
-            kind: byte(s, 4),
+            kind: s[4],
             argument: number,
         },
         0x0103 => Event::Release { slot, object },
