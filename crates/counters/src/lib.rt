@@ -29,7 +29,7 @@ pub struct CallCount(pub u8);
 #[derive(Clone, Copy)]
 pub struct SlotNo(pub u8);
 
-#[derive(Clone, Copy)]
+#[derive(Clone, Copy, PartialEq, Eq)]
 pub struct ObjectNo(pub u8);
 
 // R8: the turn of a pair.

@@ -43,7 +43,7 @@ impl<'a> Iterator for Entries<'a> {
     ghost remaining = { item_count entries_left };
 
     #[inline(always)]
-    #[tactic(auto, using(record_layout::proofs::EntryFirst::entries_first))]
+    #[tactic(auto, using(record_layout::proofs::EntryWalk::entries_first))]
     fn next(&mut self) -> Option<Entry> {
         let [object, a, b, c, d, rest @ ..] = self.0 else {
             return None;

@@ -1,4 +1,3 @@
-pub mod EntryFirst
 pub mod EntryWalk
 pub mod DeclarationWalk
 pub mod Lengths
