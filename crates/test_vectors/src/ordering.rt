@@ -1,26 +1,21 @@
 // Which of two records came first.
 use counters::Comparison;
 use record_order::CameFirst;
-use test_text::show::{number, words};
+use std::io::{self, Write};
 
-pub fn order(a: &[u8], b: &[u8]) {
-    words(b": ");
-    came(record_order::came_first(a, b));
-}
-
-fn came(came: CameFirst) {
-    match came {
-        CameFirst::Compared(comparison) => compared(comparison),
-        CameFirst::Unrelated => words(b"Unrelated"),
-        CameFirst::Refused(refusal) => number(refusal.number()),
+pub fn order(a: &[u8], b: &[u8], out: &mut impl Write) -> io::Result<()> {
+    match record_order::came_first(a, b) {
+        CameFirst::Compared(comparison) => write!(out, ": {}", name(comparison)),
+        CameFirst::Unrelated => write!(out, ": Unrelated"),
+        CameFirst::Refused(refusal) => write!(out, ": {}", refusal.number()),
     }
 }
 
-fn compared(comparison: Comparison) {
+fn name(comparison: Comparison) -> &'static str {
     match comparison {
-        Comparison::A => words(b"A"),
-        Comparison::B => words(b"B"),
-        Comparison::Same => words(b"Same"),
-        Comparison::Far => words(b"Far"),
+        Comparison::A => "A",
+        Comparison::B => "B",
+        Comparison::Same => "Same",
+        Comparison::Far => "Far",
     }
 }
