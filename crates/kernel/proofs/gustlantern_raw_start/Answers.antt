@@ -1,10 +1,9 @@
--- `kernel::gustlantern_raw_start` meets its promise: a start's value is always 0.
+-- `kernel::gustlantern_raw_start` meets its promise.
 use Rattle.pump.specs.Held.{held}
-use Rattle.kernel.proofs.Said.{said_alone, start_value}
+use Rattle.kernel.proofs.Said.{start_said}
 use Rattle.kernel.proofs.gustlantern_raw_start.Goals as goal
 
 pub returns : goal.returns
 returns c =
     let a = c.args in
-    said_alone _ c.start.result c.number.result c.number.ensures _
-    (start_value (held a.words.now a.bytes.now a.marks.now) a.slot a.list.now) c.start.ensures
+    start_said (held a.words.now a.bytes.now a.marks.now) _ a.slot a.list.now c.start.result _ c.number.ensures c.start.ensures
