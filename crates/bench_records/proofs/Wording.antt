@@ -1,43 +1,41 @@
--- The words of a list, read one after the other.
-use Prim.Native.Nat.{ℕ, suc, ◌+◌, ◌*◌, ◌-◌, ◌<◌, ◌≤◌}
-use mathlib.Core.List.{List, [], ◌∷◌, ◌++◌, append-nil}
-use mathlib.Core.Path.{◌≡◌, refl, sym, ap, ◌∙◌}
-use native.Mathlib.Numerals.{add-one}
-use native.Mathlib.Omega.{arith}
-use lib.ListN.{length, take, drop, set}
-use lib.Seq.{take-suc-set, take_all, drop-drop, append_snoc}
+-- The words of a list, read each at its place.
+use Rattle.std.proofs.Common.{◌≡◌, ℕ, zero, suc, ◌+◌, ◌*◌, ◌<◌, ◌≤◌, Bool, true, false, ltb, List, ◌∷◌, map, drop, refl, ap, subst, ◌∙◌, arith, get_or, drop-drop, ltb-true, ltb-false}
+use Rattle.std.specs.Array.{IsFromFnResult, IsFromFnResultFrom}
+use Rattle.std.specs.List.{range_with_len}
+use Rattle.std.proofs.lemmas.List.FromFn.{fill_by_all}
+use denote.Param.Members.{Mut, Called}
 use Rattle.record_layout.specs.Bytes.{word_of}
 use Rattle.bench_records.specs.Records.{words_of}
 
-words_begin : (k : ℕ) (list : List ℕ) → words_of (suc k) list ≡ word_of list ∷ words_of k (drop 4 list)
-unfolding words_of
-words_begin k list = refl
+-- calls of a closure that changes nothing it holds, one for each place
+module _ {F : Type 0} (g : Mut F (ℕ × Unit {0}) ℕ) (f : F) (value : ℕ → ℕ)
+    (gives : (i y : ℕ) (q : F) → Called g f (i, tt) y q → (y ≡ value i) × (q ≡ f)) where
+  at_each : (ys : List ℕ) (i n : ℕ) → IsFromFnResultFrom g f ys i n → (k : ℕ) → i ≤ k → k < i + n → get_or ys k 0 ≡ value k
+  at_each ys i zero calls k low high = absurd (omega arith)
+  at_each ys i (suc n) (q, y, element, called, rest) k low high =
+      let told = gives i y q called in
+      go (ltb i k) refl (at_each ys (i + 1) n (subst (λ (q : F). IsFromFnResultFrom g q ys (i + 1) n) told.1 rest) k) told.0
+    where
+      go : (above : Bool) → ltb i k ≡ above → (i + 1 ≤ k → k < i + 1 + n → get_or ys k 0 ≡ value k) → y ≡ value i → get_or ys k 0 ≡ value k
+      go true e behind here = behind (omega (arith, ltb-true i k e)) (omega arith)
+      go false e behind here =
+          let same : i ≡ k = omega (arith, ltb-false i k e) in
+          subst (λ (j : ℕ). get_or ys j 0 ≡ value j) same (element.1 0 ∙ here)
 
-words_none : (list : List ℕ) → words_of 0 list ≡ []
-unfolding words_of
-words_none list = refl
+  pub from_fn_gives : (ys : List ℕ) (n : ℕ) → IsFromFnResult g f ys n → ys ≡ map value (range_with_len 0 n)
+  from_fn_gives ys n made = fill_by_all value ys n 0 made.long (λ k below. at_each ys 0 n made.each k (omega arith) (omega arith))
 
--- the word at a place, put behind those before it
-pub words_next : (count o : ℕ) (words list : List ℕ) → o < count → length words ≡ count
-    → take o words ++ words_of (count - o) (drop (4 * o) list)
-    ≡ take (o + 1) (set words o (word_of (drop (4 * o) list))) ++ words_of (count - (o + 1)) (drop (4 * (o + 1)) list)
-words_next count o words list inside long =
-    let word : ℕ = word_of (drop (4 * o) list) in
-    let left : count - o ≡ suc (count - (o + 1)) = omega arith in
+-- the word at a place of a list
+abbrev pub word_in : List ℕ → ℕ → ℕ
+word_in list o = word_of (drop (4 * o) list)
+
+words_behind : (list : List ℕ) (o count : ℕ) → words_of count (drop (4 * o) list) ≡ map (word_in list) (range_with_len o count)
+unfolding words_of
+words_behind list o zero = refl
+words_behind list o (suc count) =
     let place : 4 * o + 4 ≡ 4 * (o + 1) = omega arith in
-    let there : o < length words = omega arith in
-    let one : take (o + 1) (set words o word) ≡ take o words ++ (word ∷ []) = rw add-one (take-suc-set words o word there) in
-    ap (λ (k : ℕ). take o words ++ words_of k (drop (4 * o) list)) left
-    ∙ ap (λ (l : List ℕ). take o words ++ l) (words_begin (count - (o + 1)) (drop (4 * o) list))
-    ∙ ap (λ (l : List ℕ). take o words ++ (word ∷ words_of (count - (o + 1)) l)) (drop-drop 4 (4 * o) list ∙ ap (λ (n : ℕ). drop n list) place)
-    ∙ sym (append_snoc (take o words) word (words_of (count - (o + 1)) (drop (4 * (o + 1)) list)))
-    ∙ ap (λ (l : List ℕ). l ++ words_of (count - (o + 1)) (drop (4 * (o + 1)) list)) (sym one)
+    ap (λ (rest : List ℕ). word_in list o ∷ rest)
+    (ap (words_of count) (drop-drop 4 (4 * o) list ∙ ap (λ (n : ℕ). drop n list) place) ∙ words_behind list (o + 1) count)
 
--- all words are read
-pub words_end : (count o : ℕ) (words list : List ℕ) → count ≤ o → length words ≡ count → take o words ++ words_of (count - o) (drop (4 * o) list) ≡ words
-words_end count o words list past long =
-    let none : count - o ≡ 0 = omega arith in
-    ap (λ (k : ℕ). take o words ++ words_of k (drop (4 * o) list)) none
-    ∙ ap (λ (l : List ℕ). take o words ++ l) (words_none (drop (4 * o) list))
-    ∙ append-nil (take o words)
-    ∙ take_all o words (omega arith)
+pub words_are : (list : List ℕ) (count : ℕ) → words_of count list ≡ map (word_in list) (range_with_len 0 count)
+words_are list count = words_behind list 0 count

@@ -4,34 +4,30 @@ ghost use Rattle.std.specs.Prelude.{◌≡◌, length};
 ghost use Rattle.bench_records.specs.Records.{taken_by, stops_at, words_of};
 
 use record_bytes::word;
-use record_layout::fields::{Fields, Reading};
+use record_layout::fields::{Fields, Reading, Record};
+use std::array;
 
 // Nothing where there is no record.
 pub fn taken(read: Reading) -> usize
     ensures { result ≡ taken_by read }
 {
-    let Ok(record) = read else {
-        return 0;
-    };
-    record.taken
+    match read {
+        Ok(record) => record.taken,
+        Err(_) => 0,
+    }
 }
 
 // Behind the first record all but an event stops the program.
 pub fn stops(read: Reading) -> bool
     ensures { result ≡ stops_at read }
 {
-    let Ok(record) = read else {
-        return true;
-    };
-    match record.fields {
-        Fields::Fresh { first: _ } => true,
-        Fields::Event(_) => false,
-        Fields::Ended {
-            tick: _,
-            slot: _,
-            rollback: _,
-        } => true,
-    }
+    !matches!(
+        read,
+        Ok(Record {
+            fields: Fields::Event(_),
+            ..
+        },)
+    )
 }
 
 // The 24 words of a list.
@@ -39,11 +35,5 @@ pub fn words(list: &[u8]) -> [u32; 24]
     requires { length list.now ≡ 96 }
     ensures { result ≡ words_of 24 list.now }
 {
-    let mut words = [0u32; 24];
-    let mut o: usize = 0;
-    while o < 24 {
-        words[o] = word(list, 4 * o);
-        o = o + 1;
-    }
-    words
+    array::from_fn(|o| word(list, 4 * o))
 }

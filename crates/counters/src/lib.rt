@@ -29,7 +29,7 @@ pub struct CallCount(pub u8);
 #[derive(Clone, Copy)]
 pub struct SlotNo(pub u8);
 
-#[derive(Clone, Copy)]
+#[derive(Clone, Copy, PartialEq, Eq)]
 pub struct ObjectNo(pub u8);
 
 // R8: the turn of a pair.
@@ -40,10 +40,10 @@ pub enum Turn {
     Released,
 }
 
-// R36: which of two versions of one object came first; neither did where they are equal or half the turnover apart.
+// R36: which of two versions of one object came first; neither did where they are equal or half the turnover apart. R38: the numbers.
 #[derive(Clone, Copy)]
 pub enum Comparison {
-    A,
+    A = 1,
     B,
     Same,
     Far,

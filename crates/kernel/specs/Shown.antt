@@ -1,12 +1,12 @@
 -- What the library shows beside steps: an object and a pair as words, and whether marks are right.
-use Rattle.std.specs.Prelude.{ℕ, Bool, List, [], ◌∷◌, leb, ltb, length, get_or}
+use Rattle.std.specs.Prelude.{ℕ, Bool, List, [], ◌∷◌, leb}
 use Rattle.answers.specs.Numbers.{number_of}
 use Rattle.answers.specs.Order.{Rule, decide, pick, ◌when◌}
 use Rattle.answers.specs.declared.Refusal.TheVariants.{BadSlot, BadObject}
 use Rattle.counters.specs.Sizes.{base}
 use Rattle.objects.specs.declared.Object.{Object}
 use Rattle.objects.specs.declared.Pair.{Pair}
-use Rattle.rules.specs.Walks.{any_below}
+use Rattle.std.specs.List.{list_all}
 
 -- a look: the number, and the lent words, which a refusal leaves as they were
 pub record Look : Type 0 where
@@ -43,4 +43,4 @@ look_pair_rules slot number = BadSlot when leb base.slots slot ∷ BadObject whe
 
 -- 1 where every byte is 0 or 1
 abbrev pub marks_hold : List ℕ → ℕ
-marks_hold bytes = pick (any_below (length bytes) (λ i. ltb 1 (get_or bytes i 0))) 0 1
+marks_hold bytes = bit_of (list_all (λ mark. leb mark 1) bytes)

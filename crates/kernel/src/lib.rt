@@ -2,6 +2,8 @@
 #![tactic(auto)]
 
 ghost use Rattle.std.specs.Prelude.{true, false, ◌≡◌};
+ghost use Rattle.answers.specs.Numbers.{reply_of};
+ghost use Rattle.answers.specs.declared.Reply.{Reply};
 ghost use Rattle.counters.specs.Sizes.{base};
 ghost use Rattle.rules.specs.Tables.{fresh_tables};
 ghost use Rattle.rules.specs.Steps.{start_step, call_step, release_step, end_step, record_step};
@@ -10,7 +12,7 @@ ghost use Rattle.kernel.specs.Border.{given, given_with};
 
 pub mod shown;
 
-use answers::Reply;
+use answers::{Answer, Reply};
 use counters::{ObjectNo, SlotNo, Version};
 
 // R7: fresh tables.
@@ -64,9 +66,7 @@ pub extern "C" fn gustlantern_raw_call(
         kind,
         argument,
     );
-    let reply = Reply::from(answer);
-    *value = reply.value;
-    reply.number
+    tell(answer, value)
 }
 
 // R15: a release.
@@ -97,9 +97,7 @@ pub extern "C" fn gustlantern_raw_commit(
     ensures { given_with words.new bytes.new marks.new result value.new ends.new ≡ end_step base false (held words.old bytes.old marks.old) slot tick ends.old }
 {
     let answer = pump::end(words, bytes, marks, SlotNo(slot), tick, false, ends);
-    let reply = Reply::from(answer);
-    *value = reply.value;
-    reply.number
+    tell(answer, value)
 }
 
 // R17: a rollback.
@@ -116,9 +114,7 @@ pub extern "C" fn gustlantern_raw_rollback(
     ensures { given_with words.new bytes.new marks.new result value.new ends.new ≡ end_step base true (held words.old bytes.old marks.old) slot tick ends.old }
 {
     let answer = pump::end(words, bytes, marks, SlotNo(slot), tick, true, ends);
-    let reply = Reply::from(answer);
-    *value = reply.value;
-    reply.number
+    tell(answer, value)
 }
 
 // R31: the event whose record stands at the first byte.
@@ -134,6 +130,13 @@ pub extern "C" fn gustlantern_raw_step(
     ensures { given_with words.new bytes.new marks.new result value.new ends.new ≡ record_step base (held words.old bytes.old marks.old) from.now ends.old }
 {
     let answer = pump::events::step_record(words, bytes, marks, from, ends);
+    tell(answer, value)
+}
+
+// R20: the number goes back to the caller, and the value stands in what it lent.
+fn tell(answer: Answer, value: &mut u32) -> u32
+    ensures { ◌≡◌ {A = Reply} (record { number = result; value = value.new }) (reply_of answer) }
+{
     let reply = Reply::from(answer);
     *value = reply.value;
     reply.number

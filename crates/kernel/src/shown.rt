@@ -1,16 +1,16 @@
 // What the library shows beside events: the order of two records, an object, a pair, and whether marks are right.
-ghost use Rattle.std.specs.Prelude.{false, ◌≡◌, ltb, length, get_or};
+ghost use Rattle.std.specs.Prelude.{false, ◌≡◌, get_or};
 ghost use Rattle.answers.specs.Numbers.{reply_of};
 ghost use Rattle.answers.specs.declared.Reply.{Reply};
 ghost use Rattle.counters.specs.Sizes.{base};
 ghost use Rattle.record_order.specs.CameFirst.{came_first, code_of, order_of};
 ghost use Rattle.rules.specs.Tables.{no_object};
-ghost use Rattle.rules.specs.Walks.{any_below};
 ghost use Rattle.tables.specs.Views.{objects_of, live_of};
 ghost use Rattle.pump.specs.Looks.{pair_seen};
-ghost use Rattle.kernel.specs.Shown.{Look, looked, bit_of, object_words, pair_words, look_object_rules, look_pair_rules, marks_hold};
+ghost use Rattle.kernel.specs.Shown.{Look, looked, object_words, pair_words, look_object_rules, look_pair_rules, marks_hold};
 
-use answers::{Answer, Refusal, Reply};
+use crate::tell;
+use answers::{Answer, Refusal};
 use counters::{Comparison, OBJECTS, ObjectNo, SLOTS, SlotNo};
 use objects::{Object, Pair};
 use pump::looks;
@@ -21,9 +21,8 @@ use record_order::CameFirst;
 pub extern "C" fn gustlantern_raw_came_first(a: &[u8], b: &[u8], order: &mut u32) -> u32
     ensures { ◌≡◌ {A = Reply} (record { number = result; value = order.new }) (order_of (came_first base a.now b.now)) }
 {
-    let reply = Reply::from(as_numbers(record_order::came_first(a, b)));
-    *order = reply.value;
-    reply.number
+    let answer = as_numbers(record_order::came_first(a, b));
+    tell(answer, order)
 }
 
 // R38: the answer of two records as numbers.
@@ -40,12 +39,7 @@ fn as_numbers(found: CameFirst) -> Answer
 fn code(comparison: Comparison) -> u32
     ensures { result ≡ code_of comparison }
 {
-    match comparison {
-        Comparison::A => 1,
-        Comparison::B => 2,
-        Comparison::Same => 3,
-        Comparison::Far => 4,
-    }
+    comparison as u32
 }
 
 // R4: what is kept of an object.
@@ -56,21 +50,19 @@ pub extern "C" fn gustlantern_raw_object(words: &[u32; 864], object: u8, seen: &
     if OBJECTS <= object {
         return Refusal::BadObject.into();
     }
-    show_object(looks::object(words, ObjectNo(object)), seen);
+    *seen = object_words(looks::object(words, ObjectNo(object)));
     0
 }
 
-fn show_object(object: Object, seen: &mut [u32])
-    requires { length seen.old ≡ 4 }
-    ensures { seen.new ≡ object_words object }
+fn object_words(object: Object) -> [u32; 4]
+    ensures { result ≡ object_words object }
 {
-    let global = object.global;
-    let local = object.local;
-    let terminal = object.terminal;
-    seen[0] = object.word;
-    seen[1] = global.0;
-    seen[2] = local.0;
-    seen[3] = terminal.0;
+    [
+        object.word,
+        object.global.0,
+        object.local.0,
+        object.terminal.0,
+    ]
 }
 
 // R4: what is kept of a slot and an object, behind the slot's live mark.
@@ -93,33 +85,23 @@ pub extern "C" fn gustlantern_raw_pair(
     }
     let live = looks::live(marks, SlotNo(slot));
     let pair = looks::pair(words, bytes, marks, SlotNo(slot), ObjectNo(object));
-    show_pair(live, pair, seen);
+    *seen = pair_words(live, pair);
     0
 }
 
-fn show_pair(live: bool, pair: Pair, seen: &mut [u32])
-    requires { length seen.old ≡ 8 }
-    ensures { seen.new ≡ pair_words live pair }
+fn pair_words(live: bool, pair: Pair) -> [u32; 8]
+    ensures { result ≡ pair_words live pair }
 {
-    let private = pair.private;
-    let count = pair.count;
-    seen[0] = bit(live);
-    seen[1] = bit(pair.declared);
-    seen[2] = pair.supremum as u32;
-    seen[3] = private.0;
-    seen[4] = count.0 as u32;
-    seen[5] = bit(pair.called);
-    seen[6] = bit(pair.spoiled);
-    seen[7] = pair.saved;
-}
-
-fn bit(mark: bool) -> u32
-    ensures { result ≡ bit_of mark }
-{
-    if mark {
-        return 1;
-    }
-    0
+    [
+        u32::from(live),
+        u32::from(pair.declared),
+        u32::from(pair.supremum),
+        pair.private.0,
+        u32::from(pair.count.0),
+        u32::from(pair.called),
+        u32::from(pair.spoiled),
+        pair.saved,
+    ]
 }
 
 // Whether each mark is 0 or 1, as every other function needs it of its caller's memory.
@@ -127,18 +109,5 @@ fn bit(mark: bool) -> u32
 pub extern "C" fn gustlantern_raw_marks_hold(marks: &[u8; 1168]) -> u32
     ensures { result ≡ marks_hold marks.now }
 {
-    bit(!exceeds(marks))
-}
-
-// Whether one of the bytes is more than 1.
-fn exceeds(bytes: &[u8]) -> bool
-    ensures { result ≡ any_below (length bytes.now) (λ i. ltb 1 (get_or bytes.now i 0)) }
-{
-    let mut found = false;
-    let mut i: usize = 0;
-    while i < bytes.len() {
-        found = answers::either(found, 1 < bytes[i]);
-        i = i + 1;
-    }
-    found
+    u32::from((0..marks.len()).all(|i| marks[i] <= 1))
 }

@@ -4,7 +4,7 @@ ghost use Rattle.record_layout.specs.Fields.{fields_of};
 ghost use Rattle.record_layout.specs.declared.kind.Kind.TheVariants.{Fresh, Start, Call, Release, End, Ended};
 
 use counters::{ObjectNo, SlotNo, Version};
-use record_bytes::{byte, word};
+use record_bytes::word;
 use record_layout::fields::{Event, Fields};
 
 pub fn fresh(b: &[u8]) -> Fields
@@ -20,9 +20,7 @@ pub fn start(b: &[u8]) -> Fields
     requires { 2 ≤ length b.now }
     ensures { result ≡ fields_of Start b.now }
 {
-    Fields::Event(Event::Start {
-        slot: SlotNo(byte(b, 0)),
-    })
+    Fields::Event(Event::Start { slot: SlotNo(b[0]) })
 }
 
 pub fn call(b: &[u8]) -> Fields
@@ -30,9 +28,9 @@ pub fn call(b: &[u8]) -> Fields
     ensures { result ≡ fields_of Call b.now }
 {
     Fields::Event(Event::Call {
-        slot: SlotNo(byte(b, 0)),
-        object: ObjectNo(byte(b, 1)),
-        kind: byte(b, 2),
+        slot: SlotNo(b[0]),
+        object: ObjectNo(b[1]),
+        kind: b[2],
         argument: word(b, 4),
     })
 }
@@ -42,8 +40,8 @@ pub fn release(b: &[u8]) -> Fields
     ensures { result ≡ fields_of Release b.now }
 {
     Fields::Event(Event::Release {
-        slot: SlotNo(byte(b, 0)),
-        object: ObjectNo(byte(b, 1)),
+        slot: SlotNo(b[0]),
+        object: ObjectNo(b[1]),
     })
 }
 
@@ -52,7 +50,7 @@ pub fn end(b: &[u8], rollback: bool) -> Fields
     ensures { result ≡ fields_of (End rollback) b.now }
 {
     Fields::Event(Event::End {
-        slot: SlotNo(byte(b, 0)),
+        slot: SlotNo(b[0]),
         tick: word(b, 1),
         rollback,
     })
@@ -64,7 +62,7 @@ pub fn ended(b: &[u8], rollback: bool) -> Fields
 {
     Fields::Ended {
         tick: word(b, 0),
-        slot: SlotNo(byte(b, 4)),
+        slot: SlotNo(b[4]),
         rollback,
     }
 }

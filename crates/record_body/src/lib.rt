@@ -5,14 +5,14 @@ ghost use Rattle.std.specs.Prelude.{◌≤◌, ◌≡◌, eqb, length};
 ghost use Rattle.counters.specs.Sizes.{base};
 ghost use Rattle.record_layout.specs.Kinds.{shape_of, body_length};
 ghost use Rattle.record_layout.specs.Fields.{fields_of};
-ghost use Rattle.record_layout.specs.Reading.{end_right, content_right, body_reading};
+ghost use Rattle.record_layout.specs.Reading.{content_right, body_reading};
 ghost use Rattle.record_layout.specs.Telling.{told_by_reading};
 
 mod heads;
 
 use answers::Refusal;
-use counters::{OBJECTS, SLOTS};
-use record_bytes::{byte, rise};
+use counters::{OBJECTS, SlotNo};
+use record_bytes::end_right;
 use record_layout::fields::{Fields, Reading, Record};
 use record_layout::kind::Kind;
 
@@ -43,7 +43,7 @@ fn length_right(kind: Kind, b: &[u8]) -> bool
     }
     let listed = b.len() - head;
     if shape.counted {
-        listed == shape.item as usize * byte(b, head - 1) as usize
+        listed == shape.item as usize * b[head - 1] as usize
     } else {
         listed == shape.item as usize * OBJECTS as usize
     }
@@ -55,27 +55,10 @@ fn content_right(kind: Kind, b: &[u8]) -> bool
     ensures { result ≡ content_right base kind b.now }
 {
     match kind {
-        Kind::Fresh => true,
-        Kind::Start => true,
-        Kind::Call => byte(b, 3) == 0,
-        Kind::Release => true,
-        Kind::End { rollback: _ } => true,
-        Kind::Ended { rollback: _ } => end_right(b),
+        Kind::Call => b[3] == 0,
+        Kind::Ended { .. } => end_right(SlotNo(b[4]), b[5] as usize, &b[6..]),
+        Kind::Fresh | Kind::Start | Kind::Release | Kind::End { .. } => true,
     }
-}
-
-// Slot, n, objects and their order.
-fn end_right(b: &[u8]) -> bool
-    requires { 6 ≤ length b.now }
-    ensures { result ≡ end_right base b.now }
-{
-    if SLOTS <= byte(b, 4) {
-        return false;
-    }
-    if byte(b, 5) == 0 {
-        return false;
-    }
-    rise(&b[6..])
 }
 
 fn fields(kind: Kind, b: &[u8]) -> Fields

@@ -1,35 +1,59 @@
-// Bytes at a place, the numbers that they make, and whether the entries of an end rise.
+// Numbers at a place of bytes, and the entries of an end: one after the other, and whether an end may list them.
 #![tactic(auto)]
 
-ghost use Rattle.std.specs.Prelude.{◌+◌, ◌<◌, ◌≤◌, ◌≡◌, length, drop};
+ghost use Rattle.std.specs.Prelude.{◌+◌, ◌≤◌, ◌≡◌, ◌&&◌, length, drop, ltb};
+ghost use Rattle.std.specs.Iterator.{YieldsFirstBy, item_count};
 ghost use Rattle.counters.specs.Sizes.{base};
-ghost use Rattle.record_layout.specs.Bytes.{byte_at, half_of, word_of};
+ghost use Rattle.record_layout.specs.Bytes.{half_of, word_of};
 ghost use Rattle.record_layout.specs.Entries.{entries_of, rising_from};
+ghost use Rattle.record_bytes.specs.EntriesLeft.{as_listed, entries_left};
 
-use counters::OBJECTS;
-
-pub fn byte(s: &[u8], at: usize) -> u8
-    requires { at < length s.now }
-    ensures { result ≡ byte_at s.now at }
-{
-    s[at]
-}
+use counters::{OBJECTS, ObjectNo, SLOTS, SlotNo, Version};
 
 pub fn half(s: &[u8], at: usize) -> u16
     requires { at + 2 ≤ length s.now }
     ensures { result ≡ half_of (drop at s.now) }
 {
-    byte(s, at) as u16 + 256 * (byte(s, at + 1) as u16)
+    u16::from_le_bytes([s[at], s[at + 1]])
 }
 
 pub fn word(s: &[u8], at: usize) -> u32
     requires { at + 4 ≤ length s.now }
     ensures { result ≡ word_of (drop at s.now) }
 {
-    byte(s, at) as u32
-        + 256
-            * (byte(s, at + 1) as u32
-                + 256 * (byte(s, at + 2) as u32 + 256 * (byte(s, at + 3) as u32)))
+    u32::from_le_bytes([s[at], s[at + 1], s[at + 2], s[at + 3]])
+}
+
+// R24: an object and its version.
+#[derive(Clone, Copy)]
+pub struct Entry {
+    pub object: ObjectNo,
+    pub version: Version,
+}
+
+// The entries that a list of bytes holds whole, first to last.
+#[derive(Clone, Copy)]
+pub struct Entries<'a>(pub &'a [u8]);
+
+impl<'a> Iterator for Entries<'a> {
+    type Item = Entry;
+
+    ghost next_gives = { YieldsFirstBy as_listed entries_left };
+
+    ghost remaining = { item_count entries_left };
+
+    #[inline(always)]
+    #[tactic(auto, using(record_layout::proofs::EntryWalk::entries_first))]
+    fn next(&mut self) -> Option<Entry> {
+        let [object, a, b, c, d, rest @ ..] = self.0 else {
+            return None;
+        };
+        self.0 = rest;
+        Some(Entry {
+            object: ObjectNo(*object),
+            version: Version(u32::from_le_bytes([*a, *b, *c, *d])),
+        })
+    }
 }
 
 // Whether the objects are all below the number of objects, each above the one before.
@@ -37,17 +61,19 @@ pub fn rise(list: &[u8]) -> bool
     ensures { result ≡ rising_from base.objects 0 (entries_of list.now) }
 {
     let mut least: u8 = 0;
-    let mut at: usize = 0;
-    while 4 < list.len() - at {
-        let object = list[at];
-        if object < least {
-            return false;
-        }
-        if OBJECTS <= object {
+    for entry in Entries(list) {
+        let object = entry.object.0;
+        if object < least || OBJECTS <= object {
             return false;
         }
         least = object + 1;
-        at = at + 5;
     }
     true
+}
+
+// R28: whether an end record may have this slot, this n and this list.
+pub fn end_right(slot: SlotNo, n: usize, list: &[u8]) -> bool
+    ensures { result ≡ (ltb slot.0 base.slots && (ltb 0 n && rising_from base.objects 0 (entries_of list.now))) }
+{
+    slot.0 < SLOTS && 0 < n && rise(list)
 }

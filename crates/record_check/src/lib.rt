@@ -3,12 +3,12 @@
 
 ghost use Rattle.std.specs.Prelude.{◌≡◌};
 ghost use Rattle.counters.specs.Sizes.{base};
-ghost use Rattle.record_layout.specs.Serving.Beside.{items_beside, end_beside, content_beside};
+ghost use Rattle.record_layout.specs.Serving.Beside.{items_beside, content_beside};
 ghost use Rattle.record_layout.specs.Kinds.{shape_of};
 ghost use Rattle.record_layout.specs.Writing.{readable};
 
-use counters::{OBJECTS, SLOTS, SlotNo};
-use record_bytes::rise;
+use counters::OBJECTS;
+use record_bytes::end_right;
 use record_layout::fields::Fields;
 use record_layout::kind::{BODY_LIMIT, Kind};
 
@@ -18,16 +18,10 @@ pub fn readable(fields: Fields, list: &[u8]) -> bool
     let kind = fields.kind();
     let shape = kind.shape();
     let bytes = list.len();
-    if BODY_LIMIT < bytes {
-        return false;
-    }
-    if BODY_LIMIT < shape.head as usize + bytes {
-        return false;
-    }
-    if bytes != shape.item as usize * items(kind, bytes) {
-        return false;
-    }
-    content(fields, list)
+    bytes <= BODY_LIMIT
+        && shape.head as usize + bytes <= BODY_LIMIT
+        && bytes == shape.item as usize * items(kind, bytes)
+        && content(fields, list)
 }
 
 // How many items the list has to be.
@@ -46,25 +40,7 @@ fn content(fields: Fields, list: &[u8]) -> bool
     ensures { result ≡ content_beside base fields list.now }
 {
     match fields {
-        Fields::Fresh { first: _ } => true,
-        Fields::Event(_) => true,
-        Fields::Ended {
-            tick: _,
-            slot,
-            rollback: _,
-        } => end(slot, list),
+        Fields::Fresh { .. } | Fields::Event(_) => true,
+        Fields::Ended { slot, .. } => end_right(slot, list.len() / 5, list),
     }
-}
-
-// Slot, n, objects and their order.
-fn end(slot: SlotNo, list: &[u8]) -> bool
-    ensures { result ≡ end_beside base slot list.now }
-{
-    if SLOTS <= slot.0 {
-        return false;
-    }
-    if list.len() / 5 == 0 {
-        return false;
-    }
-    rise(list)
 }

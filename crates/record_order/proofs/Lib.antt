@@ -1,4 +1,3 @@
-pub mod Walks
 pub mod Listed
 pub mod Search
 pub mod SmallestFound

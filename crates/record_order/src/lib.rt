@@ -7,8 +7,9 @@ ghost use Rattle.record_layout.specs.Entries.{entries_of};
 ghost use Rattle.record_order.specs.CameFirst.{meeting_of, is_end, came_first, order_of};
 
 use answers::Refusal;
-use counters::{Comparison, Version};
-use record_layout::fields::{Fields, Reading};
+use counters::Comparison;
+use record_bytes::Entries;
+use record_layout::fields::{Fields, Reading, Record};
 
 // R36: what two versions of one object say; R35: none where no object is listed by both; R34: one of the two is no end record.
 pub type CameFirst = Result<Option<Comparison>, Refusal>;
@@ -35,38 +36,25 @@ pub fn came_first(a: &[u8], b: &[u8]) -> CameFirst
 fn is_end(read: Reading) -> bool
     ensures { result ≡ is_end read }
 {
-    let Ok(record) = read else {
-        return false;
-    };
-    match record.fields {
-        Fields::Fresh { first: _ } => false,
-        Fields::Event(_) => false,
-        Fields::Ended {
-            tick: _,
-            slot: _,
-            rollback: _,
-        } => true,
-    }
+    matches!(
+        read,
+        Ok(Record {
+            fields: Fields::Ended { .. },
+            ..
+        },)
+    )
 }
 
 // R35: B's entries are gone through for each of A's, until two have the same object.
 fn meeting(a: &[u8], b: &[u8]) -> Option<Comparison>
     ensures { result ≡ meeting_of (entries_of a.now) (entries_of b.now) }
 {
-    let mut found = None;
-    let mut at_a: usize = 0;
-    'outer: while 4 < a.len() - at_a {
-        let mut at_b: usize = 0;
-        while 4 < b.len() - at_b {
-            if a[at_a] == b[at_b] {
-                let version_a = Version(record_bytes::word(a, at_a + 1));
-                let version_b = Version(record_bytes::word(b, at_b + 1));
-                found = Some(version_a.compare(version_b));
-                break 'outer;
+    for of_a in Entries(a) {
+        for of_b in Entries(b) {
+            if of_a.object == of_b.object {
+                return Some(of_a.version.compare(of_b.version));
             }
-            at_b = at_b + 5;
         }
-        at_a = at_a + 5;
     }
-    found
+    None
 }

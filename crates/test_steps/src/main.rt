@@ -4,10 +4,32 @@
 #![tactic(auto)]
 
 mod asked;
-mod sessions;
+mod event;
+mod session;
+mod told;
 
-fn main() {
-    let mut input = io::large_buffer();
-    let length = io::read_full(0, &mut input);
-    sessions::play(&input[..length]);
+use session::Session;
+use std::alloc::Global;
+use std::io::{self, BufRead, BufReader, BufWriter, Read, Write};
+
+// The longest session that is played; what goes on behind it is left out.
+const LIMIT: u64 = 65536;
+
+// Each line is written, and behind it what came of it.
+fn play(alloc: Global, input: impl BufRead + Drop, out: &mut impl Write) -> io::Result<()> {
+    let mut session = Session::new();
+    for line in input.take(LIMIT).split(alloc, b'\n') {
+        let line = line?;
+        let told = session.turn(alloc, &line)?;
+        out.write_all(&line)?;
+        writeln!(out, "{told}")?;
+    }
+    out.flush()
+}
+
+fn main(rt: HostRuntime) -> io::Result<()> {
+    let alloc = rt.alloc();
+    let input = BufReader::new(alloc, rt.stdin())?;
+    let mut out = BufWriter::new(alloc, io::writer(&rt))?;
+    play(alloc, input, &mut out)
 }

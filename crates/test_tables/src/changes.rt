@@ -1,96 +1,63 @@
 // What an event changes: how many objects, live marks and pairs are not what they were.
-use crate::looks::pair_in;
+ghost use Rattle.std.specs.Prelude.{◌≤◌};
+
+use crate::looks::{object_in, pair_in};
 use counters::{OBJECTS, ObjectNo, SLOTS, SlotNo};
 use machine::Tables;
-use objects::{Object, Pair};
 use pump::looks;
-use test_text::show::sentence;
+use std::fmt;
+
+#[derive(Clone, Copy, PartialEq, Eq)]
+pub struct Changes {
+    objects: usize,
+    slots: usize,
+    pairs: usize,
+}
+
+impl Changes {
+    pub const NONE: Changes = Changes {
+        objects: 0,
+        slots: 0,
+        pairs: 0,
+    };
+
+    pub fn between(old: &Tables, new: &Tables) -> Changes {
+        let objects = (0..OBJECTS)
+            .map(|object| ObjectNo(object))
+            .filter(|object| object_in(old, *object) != object_in(new, *object))
+            .count();
+        let slots = (0..SLOTS)
+            .map(|slot| SlotNo(slot))
+            .filter(|slot| looks::live(&old.marks, *slot) != looks::live(&new.marks, *slot))
+            .count();
+        let mut pairs = 0;
+        for slot in 0..SLOTS {
+            pairs += pairs_between(old, new, SlotNo(slot));
+        }
+        Changes {
+            objects,
+            slots,
+            pairs,
+        }
+    }
+}
+
+fn pairs_between(old: &Tables, new: &Tables, slot: SlotNo) -> usize
+    ensures { result ≤ 24 }
+{
+    (0..OBJECTS)
+        .map(|object| ObjectNo(object))
+        .filter(|object| pair_in(old, slot, *object) != pair_in(new, slot, *object))
+        .count()
+}
 
 // Nothing is said where nothing is new.
-pub fn changes(before: Tables, after: Tables) {
-    print_changes(
-        objects(before, after),
-        slots(before, after),
-        pairs(before, after),
-    );
-}
-
-fn print_changes(objects: u32, slots: u32, pairs: u32) {
-    if (objects == 0) & (slots == 0) & (pairs == 0) {
-        return;
+impl fmt::Display for Changes {
+    fn fmt<W: fmt::Write>(&self, f: &mut fmt::Formatter<W>) -> fmt::Result {
+        if *self == Changes::NONE {
+            return Ok(());
+        }
+        write!(f, "; changed objects {}, ", self.objects)?;
+        write!(f, "slots {}, pairs {}", self.slots, self.pairs)
     }
-    sentence(
-        b"; changed objects _, slots _, pairs _",
-        &[objects, slots, pairs],
-    );
-}
-
-fn objects(before: Tables, after: Tables) -> u32 {
-    let old = before.words;
-    let new = after.words;
-    let mut changed: u32 = 0;
-    let mut at: u8 = 0;
-    while at < OBJECTS {
-        let number = ObjectNo(at);
-        changed = counted(
-            changed,
-            object(looks::object(&old, number), looks::object(&new, number)),
-        );
-        at = at + 1;
-    }
-    changed
-}
-
-fn slots(before: Tables, after: Tables) -> u32 {
-    let old = before.marks;
-    let new = after.marks;
-    let mut changed: u32 = 0;
-    let mut at: u8 = 0;
-    while at < SLOTS {
-        let slot = SlotNo(at);
-        changed = counted(changed, looks::live(&old, slot) != looks::live(&new, slot));
-        at = at + 1;
-    }
-    changed
-}
-
-fn pairs(before: Tables, after: Tables) -> u32 {
-    let mut changed: u32 = 0;
-    let mut at: u32 = 0;
-    while at < 384 {
-        let slot = SlotNo((at / 24 % 256) as u8);
-        let number = ObjectNo((at % 24) as u8);
-        changed = counted(
-            changed,
-            pair(pair_in(before, slot, number), pair_in(after, slot, number)),
-        );
-        at = at + 1;
-    }
-    changed
-}
-
-fn counted(count: u32, one_more: bool) -> u32 {
-    if one_more {
-        std::num::wrapping_add_u32(count, 1)
-    } else {
-        count
-    }
-}
-
-// Whether two objects differ; and so of two pairs.
-fn object(old: Object, new: Object) -> bool {
-    (old.word != new.word)
-        | (old.global.0 != new.global.0)
-        | (old.local.0 != new.local.0)
-        | (old.terminal.0 != new.terminal.0)
-}
-
-fn pair(old: Pair, new: Pair) -> bool {
-    (old.supremum != new.supremum)
-        | (old.private.0 != new.private.0)
-        | (old.count.0 != new.count.0)
-        | (old.saved != new.saved)
-        | (old.declared != new.declared)
-        | (old.called != new.called)
-        | (old.spoiled != new.spoiled)
 }

@@ -1,55 +1,48 @@
 // What stands in the tables: an object, or a pair.
-use crate::given::{object_at, object_behind, slot_at};
 use counters::{ObjectNo, SlotNo};
 use machine::Tables;
 use objects::{Object, Pair};
 use pump::looks;
-use test_text::show::sentence;
+use std::fmt;
 
-// `show object 3`
-pub fn object(line: &[u8], tables: Tables) -> Tables {
-    let words = tables.words;
-    print_object(looks::object(&words, object_at(line)));
-    tables
+pub fn object_in(tables: &Tables, number: ObjectNo) -> Object {
+    looks::object(&tables.words, number)
 }
 
-fn print_object(object: Object) {
-    sentence(
-        b": word _, global _, local _, terminal _",
-        &[
-            object.word,
-            object.global.0,
-            object.local.0,
-            object.terminal.0,
-        ],
-    );
+pub fn pair_in(tables: &Tables, slot: SlotNo, number: ObjectNo) -> Pair {
+    looks::pair(&tables.words, &tables.bytes, &tables.marks, slot, number)
 }
 
-// `show pair 0 3`
-pub fn pair(line: &[u8], tables: Tables) -> Tables {
-    print_pair(pair_in(tables, slot_at(line), object_behind(line)));
-    tables
+#[derive(Clone, Copy)]
+pub struct ShownObject(pub Object);
+
+impl fmt::Display for ShownObject {
+    fn fmt<W: fmt::Write>(&self, f: &mut fmt::Formatter<W>) -> fmt::Result {
+        let Object {
+            word,
+            global,
+            local,
+            terminal,
+        } = self.0;
+        write!(f, "word {word}, global {}, ", global.0)?;
+        write!(f, "local {}, terminal {}", local.0, terminal.0)
+    }
 }
 
-fn print_pair(pair: Pair) {
-    sentence(
-        b": supremum _, private _, count _, saved _, declared _, called _, spoiled _",
-        &[
-            pair.supremum as u32,
-            pair.private.0,
-            pair.count.0 as u32,
-            pair.saved,
-            pair.declared as u32,
-            pair.called as u32,
-            pair.spoiled as u32,
-        ],
-    );
-}
+#[derive(Clone, Copy)]
+pub struct ShownPair(pub Pair);
 
-// The pair of tables by value.
-pub fn pair_in(tables: Tables, slot: SlotNo, number: ObjectNo) -> Pair {
-    let words = tables.words;
-    let bytes = tables.bytes;
-    let marks = tables.marks;
-    looks::pair(&words, &bytes, &marks, slot, number)
+impl fmt::Display for ShownPair {
+    fn fmt<W: fmt::Write>(&self, f: &mut fmt::Formatter<W>) -> fmt::Result {
+        let pair = self.0;
+        write!(
+            f,
+            "supremum {}, private {}, ",
+            pair.supremum, pair.private.0
+        )?;
+        write!(f, "count {}, saved {}, ", pair.count.0, pair.saved)?;
+        write!(f, "declared {}, ", u8::from(pair.declared))?;
+        write!(f, "called {}, ", u8::from(pair.called))?;
+        write!(f, "spoiled {}", u8::from(pair.spoiled))
+    }
 }

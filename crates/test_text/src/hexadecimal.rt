@@ -1,51 +1,57 @@
 // Bytes as text: two hexadecimal digits behind a space or another sign; behind a plus they count zeros.
 ghost use Rattle.std.specs.Prelude.{◌≤◌};
 
-use crate::scan::first;
+use std::alloc::{AllocError, Global};
+use std::fmt;
 
-// Puts the bytes at the front of a record of zeros; how many there are.
-pub fn decode(text: &[u8], record: &mut [u8; 600]) -> usize {
-    let mut count: usize = 0;
-    let mut at: usize = 0;
-    while 2 < text.len() - at {
-        let value = 16 * digit(text[at + 1]) + digit(text[at + 2]);
-        count = put(record, count, text[at], value);
-        at = at + 3;
-    }
-    count
-}
+// The longest record that is read; what goes on behind it is left out.
+const LIMIT: usize = 600;
 
-// Puts a byte or passes over zeros; where the next one goes.
-fn put(record: &mut [u8; 600], at: usize, sign: u8, value: u8) -> usize {
-    if 600 <= at {
-        return at;
+pub fn decode(alloc: Global, text: &[u8]) -> Result<Vec<u8>, AllocError> {
+    let mut record = Vec::new(alloc);
+    for group in text.chunks_exact(3) {
+        let value = 16 * digit(group[1]) + digit(group[2]);
+        if group[0] == b'+' {
+            record.resize(record.len() + usize::from(value), 0)?;
+        } else {
+            record.push(value)?;
+        }
     }
-    if sign == b'+' {
-        return at + value as usize;
-    }
-    record[at] = value;
-    at + 1
+    record.truncate(LIMIT);
+    Ok(record)
 }
 
 fn digit(letter: u8) -> u8
     ensures { result ≤ 15 }
 {
-    if letter < b'0' {
-        return 0;
+    match letter {
+        b'0'..=b'9' => letter - b'0',
+        b'A'..=b'F' => letter - b'A' + 10,
+        _ => 0,
     }
-    if letter <= b'9' {
-        return letter - b'0';
-    }
-    if letter < b'A' {
-        return 0;
-    }
-    if letter <= b'F' {
-        return letter - b'A' + 10;
-    }
-    0
 }
 
-// The first bytes of a record.
-pub fn front(record: &[u8; 600], count: usize) -> &[u8] {
-    first(record, count)
+// Bytes with a space before each.
+#[derive(Clone, Copy)]
+pub struct Bytes<'a>(pub &'a [u8]);
+
+impl fmt::Display for Bytes<'_> {
+    fn fmt<W: fmt::Write>(&self, f: &mut fmt::Formatter<W>) -> fmt::Result {
+        for byte in self.0 {
+            write!(f, " {byte:02X}")?;
+        }
+        Ok(())
+    }
+}
+
+// The first eight bytes of a part, and its length.
+#[derive(Clone, Copy)]
+pub struct Part<'a>(pub &'a [u8]);
+
+impl fmt::Display for Part<'_> {
+    fn fmt<W: fmt::Write>(&self, f: &mut fmt::Formatter<W>) -> fmt::Result {
+        let length = self.0.len();
+        let shown = Bytes(self.0.get(..8).unwrap_or(self.0));
+        write!(f, "{shown} of {length}")
+    }
 }

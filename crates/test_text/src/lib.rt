@@ -1,6 +1,6 @@
-// What `test_vectors` and `test_steps` read and print with: lines of text, bytes in hexadecimal, and sentences.
+// What `test_vectors` and `test_steps` read and print with: lines of text, their numbers, and bytes in hexadecimal.
 #![tactic(auto)]
 
 pub mod hexadecimal;
+pub mod numbers;
 pub mod scan;
-pub mod show;

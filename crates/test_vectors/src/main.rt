@@ -7,8 +7,11 @@ mod page;
 mod reading;
 mod writing;
 
-fn main() {
-    let mut buffer = io::large_buffer();
-    let count = io::read_full(0, &mut buffer);
-    page::vectors(&buffer[..count]);
+use std::io::{self, BufReader, BufWriter};
+
+fn main(rt: HostRuntime) -> io::Result<()> {
+    let alloc = rt.alloc();
+    let input = BufReader::new(alloc, rt.stdin())?;
+    let mut out = BufWriter::new(alloc, io::writer(&rt))?;
+    page::play(alloc, input, &mut out)
 }

@@ -1,26 +1,20 @@
 // Which of two records came first.
 use counters::Comparison;
-use record_order::CameFirst;
-use test_text::show::{number, words};
+use std::io::{self, Write};
 
-pub fn order(a: &[u8], b: &[u8]) {
-    words(b": ");
-    came(record_order::came_first(a, b));
-}
-
-fn came(came: CameFirst) {
-    match came {
-        Ok(Some(comparison)) => compared(comparison),
-        Ok(None) => words(b"Unrelated"),
-        Err(refusal) => number(refusal.into()),
+pub fn order(a: &[u8], b: &[u8], out: &mut impl Write) -> io::Result<()> {
+    match record_order::came_first(a, b) {
+        Ok(Some(comparison)) => write!(out, ": {}", name(comparison)),
+        Ok(None) => write!(out, ": Unrelated"),
+        Err(refusal) => write!(out, ": {}", u32::from(refusal)),
     }
 }
 
-fn compared(comparison: Comparison) {
+fn name(comparison: Comparison) -> &'static str {
     match comparison {
-        Comparison::A => words(b"A"),
-        Comparison::B => words(b"B"),
-        Comparison::Same => words(b"Same"),
-        Comparison::Far => words(b"Far"),
+        Comparison::A => "A",
+        Comparison::B => "B",
+        Comparison::Same => "Same",
+        Comparison::Far => "Far",
     }
 }

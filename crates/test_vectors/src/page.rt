@@ -3,51 +3,54 @@
 use crate::ordering::order;
 use crate::reading::read;
 use crate::writing::write;
-use test_text::hexadecimal::{decode, front};
-use test_text::scan::{after, before, place_of};
-use test_text::show::words;
+use std::alloc::Global;
+use std::io::{self, BufRead, Read, Write};
+use test_text::hexadecimal::decode;
+use test_text::scan::{after, before};
 
-// A page has at most 1000 lines.
-pub fn vectors(page: &[u8]) {
-    let mut rest = page;
-    let mut left: u32 = 1000;
-    while 0 < left {
-        left = left - 1;
-        line(before(rest, b'\n'));
-        let next = after(rest, b'\n');
-        rest = next;
+// A page has at most so many bytes and so many lines.
+const BYTES: u64 = 65536;
+
+const LINES: usize = 1000;
+
+#[derive(Clone, Copy)]
+enum Asked {
+    Read,
+    Write,
+    Order,
+}
+
+impl Asked {
+    fn of(line: &[u8]) -> Option<Asked> {
+        match line.first() {
+            Some(b'r') => Some(Asked::Read),
+            Some(b'w') => Some(Asked::Write),
+            Some(b'o') => Some(Asked::Order),
+            _ => None,
+        }
     }
 }
 
-fn line(line: &[u8]) {
-    let asked = place_of(line, b"r,w,o");
-    if 2 < asked {
-        return;
+pub fn play(alloc: Global, page: impl BufRead + Drop, out: &mut impl Write) -> io::Result<()> {
+    for line in page.take(BYTES).split(alloc, b'\n').take(LINES) {
+        let line = line?;
+        if let Some(asked) = Asked::of(&line) {
+            out.write_all(before(&line, b':'))?;
+            answer(alloc, asked, after(&line, b':'), out)?;
+            writeln!(out)?;
+        }
     }
-    words(before(line, b':'));
-    bytes(asked, after(line, b':'));
-    words(b"\n");
+    out.flush()
 }
 
-fn bytes(asked: u32, text: &[u8]) {
+fn answer(alloc: Global, asked: Asked, text: &[u8], out: &mut impl Write) -> io::Result<()> {
     match asked {
-        2 => records(asked, before(text, b'/'), after(text, b'/')),
-        _ => records(asked, text, b""),
-    }
-}
-
-fn records(asked: u32, a_text: &[u8], b_text: &[u8]) {
-    let mut a = [0u8; 600];
-    let mut b = [0u8; 600];
-    let a_count = decode(a_text, &mut a);
-    let b_count = decode(b_text, &mut b);
-    answer(asked, front(&a, a_count), front(&b, b_count));
-}
-
-fn answer(asked: u32, a: &[u8], b: &[u8]) {
-    match asked {
-        0 => read(a),
-        1 => write(a),
-        _ => order(a, b),
+        Asked::Read => read(&decode(alloc, text)?, out),
+        Asked::Write => write(alloc, &decode(alloc, text)?, out),
+        Asked::Order => {
+            let a = decode(alloc, before(text, b'/'))?;
+            let b = decode(alloc, after(text, b'/'))?;
+            order(&a, &b, out)
+        }
     }
 }

@@ -1,71 +1,57 @@
 // What the reader gives: the frame, the fields or the refusal, and the parts handed back.
-use record_layout::fields::{Event, Fields, Framing, Reading};
-use test_text::show::{kind, number, part, sentence, words};
+use record_layout::fields::{Event, Fields};
+use std::fmt;
+use std::io::{self, Write};
+use test_text::hexadecimal::Part;
 
-pub fn read(s: &[u8]) {
-    words(b": frame ");
-    frame(record_frame::frame(s));
-    words(b", read ");
-    reading(record_read::read(s));
-    part(b", body", record_frame::body(s));
-    part(b", list", record_read::list(s));
-}
-
-fn frame(framing: Framing) {
-    match framing {
-        Ok(frame) => kind(frame.number),
-        Err(refusal) => number(refusal.into()),
+pub fn read(s: &[u8], out: &mut impl Write) -> io::Result<()> {
+    match record_frame::frame(s) {
+        Ok(frame) => write!(out, ": frame {:#06X}", frame.number)?,
+        Err(refusal) => write!(out, ": frame {}", u32::from(refusal))?,
     }
-}
-
-fn reading(reading: Reading) {
-    match reading {
-        Ok(record) => told(record.fields),
-        Err(refusal) => number(refusal.into()),
+    match record_read::read(s) {
+        Ok(record) => write!(out, ", read {}", Told(record.fields))?,
+        Err(refusal) => write!(out, ", read {}", u32::from(refusal))?,
     }
+    let body = Part(record_frame::body(s));
+    let list = Part(record_read::list(s));
+    write!(out, ", body{body}, list{list}")
 }
 
-// The kind, and its fields in the order in which they stand.
-pub fn told(fields: Fields) {
-    kind(fields.shape().number);
-    match fields {
-        Fields::Fresh { first } => one(first.0),
-        Fields::Event(event) => told_event(event),
-        Fields::Ended {
-            tick,
-            slot,
-            rollback: _,
-        } => two(tick, slot.0 as u32),
+// The number of the kind, and the fields in the order in which they stand.
+#[derive(Clone, Copy)]
+pub struct Told(pub Fields);
+
+impl fmt::Display for Told {
+    fn fmt<W: fmt::Write>(&self, f: &mut fmt::Formatter<W>) -> fmt::Result {
+        let number = self.0.shape().number;
+        write!(f, "{number:#06X}")?;
+        match self.0 {
+            Fields::Fresh { first } => write!(f, " {}", first.0),
+            Fields::Event(Event::Start { slot }) => write!(f, " {}", slot.0),
+            Fields::Event(
+                Event::Call {
+                    slot,
+                    object,
+                    kind,
+                    argument,
+                },
+            ) => write!(f, " {} {} {kind} {argument}", slot.0, object.0),
+            Fields::Event(Event::Release { slot, object }) => {
+                write!(f, " {} {}", slot.0, object.0)
+            }
+            Fields::Event(
+                Event::End {
+                    slot,
+                    tick,
+                    rollback: _,
+                },
+            ) => write!(f, " {} {tick}", slot.0),
+            Fields::Ended {
+                tick,
+                slot,
+                rollback: _,
+            } => write!(f, " {tick} {}", slot.0),
+        }
     }
-}
-
-fn told_event(event: Event) {
-    match event {
-        Event::Start { slot } => one(slot.0 as u32),
-        Event::Call {
-            slot,
-            object,
-            kind,
-            argument,
-        } => four(slot.0, object.0, kind, argument),
-        Event::Release { slot, object } => two(slot.0 as u32, object.0 as u32),
-        Event::End {
-            slot,
-            tick,
-            rollback: _,
-        } => two(slot.0 as u32, tick),
-    }
-}
-
-fn one(field: u32) {
-    sentence(b" _", &[field]);
-}
-
-fn two(first: u32, second: u32) {
-    sentence(b" _ _", &[first, second]);
-}
-
-fn four(slot: u8, object: u8, call: u8, argument: u32) {
-    two(slot as u32, object as u32);
-    two(call as u32, argument);
 }

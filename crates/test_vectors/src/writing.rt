@@ -1,85 +1,58 @@
 // What the writer gives for fields and a list, with so much room in a buffer of EE.
-ghost use Rattle.std.specs.Prelude.{◌≤◌, length};
-
-use crate::reading;
+use crate::reading::Told;
+use answers::Reply;
 use counters::{ObjectNo, SlotNo, Version};
-use record_bytes::{byte, half, word};
 use record_layout::fields::{Event, Fields};
-use test_text::show;
+use record_layout::kind::Kind;
+use std::alloc::Global;
+use std::io::{self, Write};
+use test_text::hexadecimal::{Bytes, Part};
 
-// The fields in 9 bytes, the room in one, and the list.
-pub fn write(s: &[u8]) {
-    if s.len() < 10 {
-        return;
-    }
-    let fields = fields_of(s);
-    show::words(b": ");
-    reading::told(fields);
-    with_room(fields, &s[10..], byte(s, 9));
+// The fields in 9 bytes, the room in one, and the list; nothing is told where there are fewer bytes.
+pub fn write(alloc: Global, given: &[u8], out: &mut impl Write) -> io::Result<()> {
+    let Some((head, list)) = given.split_first_chunk::<10>() else {
+        return Ok(());
+    };
+    let fields = fields_of(head);
+    let room = head[9];
+    let mut buffer = vec![in alloc; 0xEE; usize::from(room)]?;
+    let answer = record_write::write(fields, list, &mut buffer);
+    write!(out, ": {}, list{}, room {room}", Told(fields), Part(list))?;
+    let reply = Reply::from(answer);
+    write!(out, ": {} {}", reply.number, reply.value)?;
+    write!(out, ";{}", Bytes(&buffer))
 }
 
-// A kind's number, slot, object, kind of call, and version, argument or tick. What a kind has no field for is left out.
-fn fields_of(s: &[u8]) -> Fields
-    requires { 10 ≤ length s.now }
-{
-    let slot = SlotNo(byte(s, 2));
-    let number = word(s, 5);
-    match half(s, 0) {
-        0x0100 => Fields::Fresh {
+// A kind's number, slot, object, kind of call, and version, argument or tick. What a kind has no field for is left out, and
+// an unknown kind is taken for a rollback.
+fn fields_of(head: &[u8; 10]) -> Fields {
+    let [low, high, slot, object, call, n0, n1, n2, n3, _] = *head;
+    let slot = SlotNo(slot);
+    let object = ObjectNo(object);
+    let number = u32::from_le_bytes([n0, n1, n2, n3]);
+    let kind = Kind::try_from(u16::from_le_bytes([low, high]));
+    let kind = kind.unwrap_or(Kind::End { rollback: true });
+    match kind {
+        Kind::Fresh => Fields::Fresh {
             first: Version(number),
         },
-        0x0201 => Fields::Ended {
-            tick: number,
-            slot,
-            rollback: false,
-        },
-        0x0202 => Fields::Ended {
-            tick: number,
-            slot,
-            rollback: true,
-        },
-        _ => Fields::Event(event_of(s)),
-    }
-}
-
-fn event_of(s: &[u8]) -> Event
-    requires { 10 ≤ length s.now }
-{
-    let slot = SlotNo(byte(s, 2));
-    let object = ObjectNo(byte(s, 3));
-    let number = word(s, 5);
-    match half(s, 0) {
-        0x0101 => Event::Start { slot },
-        0x0102 => Event::Call {
+        Kind::Start => Fields::Event(Event::Start { slot }),
+        Kind::Call => Fields::Event(Event::Call {
             slot,
             object,
-            kind: byte(s, 4),
+            kind: call,
             argument: number,
-        },
-        0x0103 => Event::Release { slot, object },
-        0x0104 => Event::End {
+        }),
+        Kind::Release => Fields::Event(Event::Release { slot, object }),
+        Kind::End { rollback } => Fields::Event(Event::End {
             slot,
             tick: number,
-            rollback: false,
-        },
-        _ => Event::End {
-            slot,
+            rollback,
+        }),
+        Kind::Ended { rollback } => Fields::Ended {
             tick: number,
-            rollback: true,
+            slot,
+            rollback,
         },
     }
-}
-
-fn with_room(fields: Fields, list: &[u8], room: u8) {
-    show::part(b", list", list);
-    show::sentence(b", room _", &[room as u32]);
-    let mut buffer = [0xEEu8; 256];
-    written(fields, list, &mut buffer[0..room as usize]);
-}
-
-// What the writer answers, and the buffer afterwards.
-fn written(fields: Fields, list: &[u8], buffer: &mut [u8]) {
-    show::answer(record_write::write(fields, list, buffer));
-    show::words(b";");
-    show::bytes(buffer);
 }

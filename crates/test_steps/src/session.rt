@@ -1,0 +1,105 @@
+// A session: its lines are played on tables, and tables can be kept to go back to.
+use crate::asked::{Asked, Edit};
+use crate::event::{Given, fields};
+use crate::told::{FILLING, Told};
+use counters::Version;
+use machine::Tables;
+use record_layout::kind::Kind;
+use std::alloc::{AllocError, Global};
+use test_tables::changes::Changes;
+use test_tables::given;
+use test_tables::looks::{object_in, pair_in};
+use test_text::numbers::Numbers;
+use test_text::scan::after;
+
+#[derive(Clone, Copy)]
+pub struct Session {
+    tables: Tables,
+    kept: Tables,
+}
+
+impl Session {
+    // From tables of zeros, which also count as kept.
+    pub fn new() -> Session {
+        let tables = events::fresh(Version(0), [0; 24]);
+        Session {
+            tables,
+            kept: tables,
+        }
+    }
+
+    // The room of an end stands behind its tick, and that of a record first; an event by the number of its kind has 16 bytes.
+    pub fn turn(&mut self, alloc: Global, line: &[u8]) -> Result<Told, AllocError> {
+        let numbers = Numbers::of(alloc, line)?;
+        let Some(asked) = Asked::of(line) else {
+            return Ok(Told::Nothing);
+        };
+        match asked {
+            Asked::Event(kind) => {
+                let event = Given::Fields(fields(kind, &numbers));
+                self.event(alloc, event, &numbers, numbers.at(2))
+            }
+            Asked::Record => self.event(alloc, Given::Record, &numbers, numbers.at(0)),
+            Asked::Step => {
+                let given = Numbers::of(alloc, after(line, b':'))?;
+                self.event(alloc, Given::numbered(numbers.at(0), &given), &given, 16)
+            }
+            Asked::Calls => {
+                self.calls(numbers.at(0), &Numbers::of(alloc, after(line, b':'))?);
+                Ok(Told::Nothing)
+            }
+            Asked::ShowObject => {
+                let number = given::object_at(&numbers, 0);
+                Ok(Told::Object(object_in(&self.tables, number)))
+            }
+            Asked::ShowPair => {
+                let slot = given::slot_at(&numbers);
+                let number = given::object_at(&numbers, 1);
+                Ok(Told::Pair(pair_in(&self.tables, slot, number)))
+            }
+            Asked::Edit(edit) => {
+                self.edit(edit, &numbers);
+                Ok(Told::Nothing)
+            }
+        }
+    }
+
+    fn edit(&mut self, edit: Edit, numbers: &Numbers<'_>) {
+        match edit {
+            Edit::Fresh => self.tables = given::fresh(numbers),
+            Edit::Live => given::live(numbers, &mut self.tables),
+            Edit::Object => given::object(numbers, &mut self.tables),
+            Edit::Pair => given::pair(numbers, &mut self.tables),
+            Edit::Keep => self.kept = self.tables,
+            Edit::Back => self.tables = self.kept,
+        }
+    }
+
+    // The buffer that is lent has at most 136 bytes.
+    fn event(
+        &mut self,
+        alloc: Global,
+        event: Given,
+        numbers: &Numbers<'_>,
+        room: u32,
+    ) -> Result<Told, AllocError> {
+        let mut lent = vec![in alloc; FILLING; (room % 137) as usize]?;
+        let before = self.tables;
+        let stepped = event.step(before, &numbers.rest(alloc)?, &mut lent);
+        self.tables = stepped.tables;
+        Ok(Told::Event {
+            answer: stepped.answer,
+            lent,
+            changes: Changes::between(&before, &self.tables),
+        })
+    }
+
+    // `make 254 calls: slot 0, object 3, add (2) 1`, of which nothing is told.
+    fn calls(&mut self, count: u32, given: &Numbers<'_>) {
+        let call = fields(Kind::Call, given);
+        for _ in 0..count {
+            let stepped = events::step(self.tables, call, b"", &mut []);
+            self.tables = stepped.tables;
+        }
+    }
+}

@@ -1,0 +1,54 @@
+// The decimal numbers among the words of a line, up to a remark behind '#'.
+use crate::scan::before;
+use std::alloc::{AllocError, Global};
+
+// A line has places for so many numbers; the digits of one more go behind those of the first, and so on.
+const PLACES: usize = 136;
+
+// The numbers by their digits.
+#[derive(Drop)]
+pub struct Numbers<'a>(Vec<&'a [u8]>);
+
+impl<'a> Numbers<'a> {
+    pub fn of(alloc: Global, line: &'a [u8]) -> Result<Numbers<'a>, AllocError> {
+        let digits = before(line, b'#')
+            .split(|byte| !byte.is_ascii_digit())
+            .filter(|digits| !digits.is_empty())
+            .collect(alloc)?;
+        Ok(Numbers(digits))
+    }
+
+    // The places up to the one of the last number.
+    pub fn count(&self) -> usize {
+        match self.0.len() {
+            0 => 0,
+            numbers => (numbers - 1) % PLACES + 1,
+        }
+    }
+
+    // The number at this place modulo 2^32, 0 where the line has fewer.
+    pub fn at(&self, place: usize) -> u32 {
+        self.0
+            .iter()
+            .skip(place)
+            .step_by(PLACES)
+            .flat_map(|digits| digits.iter())
+            .fold(0u32, |number, digit| {
+                number
+                    .wrapping_mul(10)
+                    .wrapping_add(u32::from(*digit & 0x0F))
+            })
+    }
+
+    // The same as a byte.
+    pub fn byte(&self, place: usize) -> u8 {
+        self.at(place).to_le_bytes()[0]
+    }
+
+    // All numbers but the first, as bytes.
+    pub fn rest(&self, alloc: Global) -> Result<Vec<u8>, AllocError> {
+        (1..self.count())
+            .map(|place| self.byte(place))
+            .collect(alloc)
+    }
+}
