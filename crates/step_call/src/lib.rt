@@ -68,8 +68,7 @@ pub fn release(
     match leaf_call::release(size, slot, number, live, pair, object) {
         Verdict::Refuses(refusal) => Answer::Refused(refusal),
         Verdict::Passes => {
-            let private = pair.private;
-            tables::store_object(words, size, o, object.let_go(private));
+            tables::store_object(words, size, o, object.let_go(pair.private));
             Answer::Accepted(0)
         }
     }
