@@ -1,27 +1,25 @@
 // Standard input, behind the bytes that are at hand.
-ghost use Rattle.std.specs.Prelude.{◌<◌, length};
+ghost use Rattle.std.specs.Prelude.{◌≡◌, ◌<◌, IfOk, length, take};
 ghost use Rattle.bench.specs.Kept.{Kept};
 
-use std::io::{Error, Read};
+use std::io::{Read, Result};
 
-// The bytes at hand with those that were read, whether the input has ended, and why reading has failed, if it has.
+// The bytes at hand with those that were read, and whether the input has ended.
 #[derive(Clone, Copy)]
 pub struct Input {
     pub hand: usize,
     pub ended: bool,
-    pub failed: Option<Error>,
 }
 
 // One read: it gives what is there, and waits only where nothing is. The bytes at hand stay as they were.
-pub fn more(from: &mut impl Read, buffer: &mut [u8], hand: usize) -> Input
+pub fn more(from: &mut impl Read, buffer: &mut [u8], hand: usize) -> Result<Input>
     requires { hand < length buffer.old }
-    ensures { Kept result hand buffer.old buffer.new }
+    ensures front { take hand buffer.new ≡ take hand buffer.old }
+    ensures kept { IfOk result (λ read. Kept read hand buffer.old buffer.new) }
 {
-    let got = from.read(&mut buffer[hand..]);
-    let count = got.unwrap_or(0);
-    Input {
+    let count = from.read(&mut buffer[hand..])?;
+    Ok(Input {
         hand: hand + count,
         ended: count == 0,
-        failed: got.err(),
-    }
+    })
 }

@@ -113,15 +113,6 @@ whole_enough z bytes = go (leb 4 (length bytes)) (ltb (body_limit z) (length_fie
     go true false true e f g all =
         record { framed = leb-true 4 (length bytes) e; bodied = λ fits. leb-true (4 + length_field bytes) (length bytes) g }
 
--- how the code finds it
-pub whole_by_limit : (bytes : List ℕ) (n : ℕ) → n ≡ length_field bytes → 4 ≤ length bytes → body_limit base < n → whole base bytes ≡ true
-whole_by_limit bytes n e framed long = rw (le-leb 4 (length bytes) framed, lt-ltb (body_limit base) (length_field bytes) (omega arith))
-
-pub whole_by_length : (bytes : List ℕ) (n : ℕ) → n ≡ length_field bytes → 4 ≤ length bytes → n ≤ body_limit base
-    → whole base bytes ≡ leb (4 + n) (length bytes)
-whole_by_length bytes n e framed short =
-    rw (le-leb 4 (length bytes) framed, le-ltb (body_limit base) (length_field bytes) (omega arith)) (ap (λ (k : ℕ). leb (4 + k) (length bytes)) (sym e))
-
 -- what is certain in a piece is what the whole input gives; behind the end of the input there is nothing
 pub certain_same : (ended : Bool) (stage : Stage) (piece rest : List ℕ) → certain base ended piece ≡ true → (ended ≡ true → rest ≡ [])
     → answer_at base stage (piece ++ rest) ≡ answer_at base stage piece

@@ -18,15 +18,6 @@ written_behind buffer taken used playing =
       lines = lent (used + length playing.lines) (placed buffer used playing.lines);
     }
 
-pub nothing_before : (buffer : List ℕ) (playing : Playing) → written_into buffer playing ≡ written_behind buffer 0 0 playing
-nothing_before buffer playing =
-    λ i.
-    record {
-      stage = playing.stage;
-      taken = sym (zero-add playing.taken) i;
-      lines = let n : ℕ = sym (zero-add (length playing.lines)) i in lent n (playing.lines ++ drop n buffer);
-    }
-
 pub none_written : (buffer : List ℕ) (taken used : ℕ) (stage : Stage)
     → written_behind buffer taken used (not_played stage) ≡ record { stage = stage; taken = taken; lines = lent used buffer }
 none_written buffer taken used stage =

@@ -3,3 +3,4 @@ pub mod Pieces
 pub mod Turns
 pub mod Deliveries
 pub mod SessionW
+pub mod Serving

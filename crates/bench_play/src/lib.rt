@@ -4,16 +4,19 @@
 
 ghost use Rattle.std.specs.Prelude.{◌≡◌, length};
 ghost use Rattle.counters.specs.Sizes.{base};
-ghost use Rattle.bench_play.specs.Bench.{at_first};
+ghost use Rattle.machine.specs.Views.{view};
+ghost use Rattle.bench_records.specs.Records.{answered};
+ghost use Rattle.bench_play.specs.Bench.{at_first, answer_at, stage_behind};
 ghost use Rattle.bench_play.specs.Pieces.{piece_played, stage_of, written, written_into};
+ghost use Rattle.bench_play.specs.Serving.Answers.{unprinted};
 ghost use Rattle.bench_play.specs.Turns.{turned, turn_of};
 
 mod records;
 
+use bench_records::Answered;
 use counters::Version;
 use machine::Tables;
-use records::{answer, playable, put};
-use std::num::wrapping_add_u64;
+use records::{playable, put};
 
 // How the bench stands between two records.
 #[derive(Clone, Copy)]
@@ -53,55 +56,60 @@ pub fn at_first() -> Bench
     }
 }
 
+impl Bench {
+    // Plays the record in front of the bytes, the first one or one behind it.
+    fn record(&mut self, bytes: &[u8]) -> Answered
+        ensures given { answered (unprinted self.old.begun) (view self.new.tables) result ≡ answer_at base (stage_of self.old) bytes.now }
+        ensures behind { stage_of self.new ≡ stage_behind (stage_of self.old) (answer_at base (stage_of self.old) bytes.now) }
+    {
+        let tables = &mut self.tables;
+        let here = if self.begun {
+            bench_records::next(
+                &mut tables.words,
+                &mut tables.bytes,
+                &mut tables.marks,
+                bytes,
+            )
+        } else {
+            bench_records::first(
+                &mut tables.words,
+                &mut tables.bytes,
+                &mut tables.marks,
+                bytes,
+            )
+        };
+        self.begun = true;
+        self.event = self.event.wrapping_add(1);
+        self.stopped = here.stops;
+        here
+    }
+}
+
 // The records that are certain to be whole, as long as the longest line has room behind those before it.
-pub fn play(bench: Bench, bytes: &[u8], ended: bool, lines: &mut [u8]) -> Played
+pub fn play(mut bench: Bench, bytes: &[u8], ended: bool, lines: &mut [u8]) -> Played
     ensures { written result lines.new ≡ written_into lines.old (piece_played ended (length lines.old) (stage_of bench) bytes.now) }
 {
-    let tables = bench.tables;
-    let mut words = tables.words;
-    let mut counts = tables.bytes;
-    let mut marks = tables.marks;
-    let mut begun = bench.begun;
-    let mut event = bench.event;
-    let mut stopped = bench.stopped;
     let mut taken: usize = 0;
     let mut used: usize = 0;
-    while playable(stopped, ended, &bytes[taken..], lines.len() - used) {
-        let here = answer(begun, &mut words, &mut counts, &mut marks, &bytes[taken..]);
-        let reply = here.answer;
-        used = used + put(event, here.prints, reply, lines, used);
-        begun = true;
-        event = wrapping_add_u64(event, 1);
-        stopped = here.stops;
-        taken = taken + here.taken;
+    while playable(bench.stopped, ended, &bytes[taken..], lines.len() - used) {
+        let event = bench.event;
+        let here = bench.record(&bytes[taken..]);
+        used += put(event, here.line, lines, used);
+        taken += here.taken;
     }
-    Played {
-        bench: Bench {
-            tables: Tables {
-                words,
-                bytes: counts,
-                marks,
-            },
-            begun,
-            event,
-            stopped,
-        },
-        taken,
-        used,
-    }
+    Played { bench, taken, used }
 }
 
 // Plays the bytes at hand, and moves to the front what is not taken.
 pub fn turn(bench: Bench, bytes: &mut [u8], ended: bool, lines: &mut [u8]) -> Turned
     ensures { turned result bytes.new lines.new ≡ turn_of ended (stage_of bench) bytes.old lines.old }
 {
-    let played = play(bench, bytes, ended, lines);
-    let kept = bench_lines::buffers::to_front(bytes, played.taken);
-    let behind = played.bench;
+    let Played { bench, taken, used } = play(bench, bytes, ended, lines);
+    let kept = bench_lines::buffers::to_front(bytes, taken);
     Turned {
-        bench: behind,
+        bench,
         kept,
-        used: played.used,
-        waits: played.taken == 0,
+        used,
+        waits: taken == 0,
     }
 }

@@ -1,8 +1,9 @@
 -- R39 to R43, record by record: what the first record gives, and what each further one gives.
 use Rattle.record_layout.specs.Reading.{read_as, reading, listing, Reading}
-use Rattle.std.specs.Prelude.{ℕ, zero, suc, Bool, true, false, not, List, [], ◌∷◌, length, drop, replicate, ltb, Err, Ok}
+use Rattle.std.specs.Prelude.{ℕ, zero, suc, Bool, true, false, not, List, [], ◌∷◌, length, drop, replicate, ltb, Err, Ok, is_some}
 use Rattle.answers.specs.Numbers.{reply_of, accepted, refused}
 use Rattle.answers.specs.declared.Reply.{Reply}
+use Rattle.std.specs.Option.{unwrap_or, option_map}
 use Rattle.answers.specs.declared.Refusal.{Refusal}
 use Rattle.answers.specs.declared.Refusal.TheVariants.{BadRecord}
 use Rattle.counters.specs.Sizes.{Size}
@@ -21,8 +22,10 @@ pub record Answering : Type 0 where
   pub stops : Bool
   pub taken : ℕ
 
-abbrev pub answered : State → Answered → Answering
-answered tables r = record { tables = tables; reply = reply_of r.answer; prints = r.prints; stops = r.stops; taken = r.taken }
+-- what is seen of what the code gives; it keeps no reply of a record that prints no line
+abbrev pub answered : Reply → State → Answered → Answering
+answered unprinted tables r =
+    record { tables = tables; reply = unwrap_or (option_map reply_of r.line) unprinted; prints = is_some r.line; stops = r.stops; taken = r.taken }
 
 -- the first so many words of a list
 unfoldable pub words_of : ℕ → List ℕ → List ℕ

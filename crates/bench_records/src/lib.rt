@@ -2,6 +2,8 @@
 #![tactic(auto)]
 
 ghost use Rattle.std.specs.Prelude.{◌≡◌, length};
+ghost use Rattle.answers.specs.Numbers.{accepted, refused};
+ghost use Rattle.answers.specs.declared.Refusal.TheVariants.{BadRecord};
 ghost use Rattle.counters.specs.Sizes.{base};
 ghost use Rattle.pump.specs.Held.{held};
 ghost use Rattle.bench_records.specs.Records.{answered, begins_with, not_fresh, first_step, bench_step};
@@ -12,12 +14,11 @@ use answers::{Answer, Refusal};
 use counters::Version;
 use record_layout::fields::Fields;
 
-// What a record gives beside the tables: the answer, whether it prints a line, whether it stops the program, and the
-// bytes that it takes.
+// What a record gives beside the tables: the answer of its line, where it prints one, whether it stops the program, and
+// the bytes that it takes.
 #[derive(Clone, Copy)]
 pub struct Answered {
-    pub answer: Answer,
-    pub prints: bool,
+    pub line: Option<Answer>,
     pub stops: bool,
     pub taken: usize,
 }
@@ -29,7 +30,7 @@ pub fn first(
     marks: &mut [bool; 1168],
     bytes: &[u8],
 ) -> Answered
-    ensures { answered (held words.new counts.new marks.new) result ≡ first_step base bytes.now }
+    ensures { answered (accepted 0) (held words.new counts.new marks.new) result ≡ first_step base bytes.now }
 {
     let record = match record_read::read(bytes) {
         Ok(record) => record,
@@ -51,13 +52,12 @@ fn fresh(
     taken: usize,
 ) -> Answered
     requires { length list.now ≡ 96 }
-    ensures { answered (held words.new counts.new marks.new) result ≡ begins_with base first list.now taken }
+    ensures { answered (accepted 0) (held words.new counts.new marks.new) result ≡ begins_with base first list.now taken }
 {
     let given = records::words(list);
     pump::fresh(words, counts, marks, first, &given);
     Answered {
-        answer: Ok(0),
-        prints: false,
+        line: None,
         stops: false,
         taken,
     }
@@ -70,13 +70,12 @@ fn not_fresh(
     marks: &mut [bool; 1168],
     refusal: Refusal,
 ) -> Answered
-    ensures { answered (held words.new counts.new marks.new) result ≡ not_fresh base refusal }
+    ensures { answered (accepted 0) (held words.new counts.new marks.new) result ≡ not_fresh base refusal }
 {
     let zeros = [0u32; 24];
     pump::fresh(words, counts, marks, Version(0), &zeros);
     Answered {
-        answer: Err(refusal),
-        prints: true,
+        line: Some(Err(refusal)),
         stops: true,
         taken: 0,
     }
@@ -89,15 +88,14 @@ pub fn next(
     marks: &mut [bool; 1168],
     bytes: &[u8],
 ) -> Answered
-    ensures { answered (held words.new counts.new marks.new) result ≡ bench_step base (held words.old counts.old marks.old) bytes.now }
+    ensures { answered (refused BadRecord) (held words.new counts.new marks.new) result ≡ bench_step base (held words.old counts.old marks.old) bytes.now }
 {
     let mut buffer = [0u8; 130];
     let read = record_read::read(bytes);
     let list = record_read::list_of(read, bytes);
     let answer = pump::events::step_read(words, counts, marks, read, list, &mut buffer);
     Answered {
-        answer,
-        prints: 0 < bytes.len(),
+        line: (0 < bytes.len()).then_some(answer),
         stops: records::stops(read),
         taken: records::taken(read),
     }

@@ -1,2 +1,1 @@
-pub mod DeclarationRules
 pub mod StartLoops

@@ -10,21 +10,21 @@ use answers::{Refusal, Verdict};
 use counters::{Size, SlotNo};
 
 // R22: of each declaration in turn, 2 and 3.
+#[tactic(auto, using(record_layout::proofs::DeclarationWalk::declarations_first))]
 fn declarations(size: Size, list: &[u8]) -> Verdict
     ensures { result ≡ decide (declaration_rules size 0 (declarations_of list.now)) refuses passes }
 {
     let mut least: u8 = 0;
-    let mut at: usize = 0;
-    while 1 < list.len() - at {
-        let object = list[at];
-        if size.objects <= object {
+    let mut left = list;
+    while let [object, _, rest @ ..] = left {
+        if size.objects <= *object {
             return Err(Refusal::BadObject);
         }
-        if object < least {
+        if *object < least {
             return Err(Refusal::BadList);
         }
-        least = object + 1;
-        at = at + 2;
+        least = *object + 1;
+        left = rest;
     }
     Ok(())
 }

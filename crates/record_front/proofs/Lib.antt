@@ -1,2 +1,1 @@
-pub mod Fronted
 pub mod Splicing

@@ -1,70 +1,64 @@
-// The head of each kind behind its frame f, and zeros behind it; w is a word's bytes.
-ghost use Rattle.std.specs.Prelude.{◌≤◌, ◌≡◌, [], ◌∷◌, ◌++◌};
-ghost use Rattle.record_layout.specs.Bytes.{word_bytes};
-ghost use Rattle.record_layout.specs.Fields.{event_head};
-ghost use Rattle.record_front.specs.Serving.Filled.{in_order, filled};
+// The frame of a record, and behind it the head of each kind and zeros.
+ghost use Rattle.std.specs.Prelude.{◌+◌, ◌≤◌, ◌≡◌, [], ◌∷◌, ◌++◌};
+ghost use Rattle.record_layout.specs.Bytes.{half_bytes, word_bytes};
+ghost use Rattle.record_layout.specs.Fields.{kind_of_fields, event_head};
+ghost use Rattle.record_layout.specs.Kinds.{shape_of};
+ghost use Rattle.record_front.specs.Serving.Filled.{filled};
 
-use crate::fours::{Four, word};
-use counters::{ObjectNo, SlotNo, Version};
-use record_layout::fields::Event;
+use counters::SlotNo;
+use record_layout::fields::{Event, Fields};
 
-pub fn fresh(f: Four, first: Version) -> [u8; 12]
-    ensures { result ≡ filled 12 (in_order f ++ word_bytes first.0) }
+// Length and kind, in front of a body with a list of so many bytes.
+pub fn frame(fields: Fields, bytes: u16) -> [u8; 4]
+    requires { bytes ≤ 510 }
+    ensures { result ≡ half_bytes ((shape_of (kind_of_fields fields)).head + bytes) ++ half_bytes (shape_of (kind_of_fields fields)).number }
 {
-    let w = word(first.0);
-    [f.0, f.1, f.2, f.3, w.0, w.1, w.2, w.3, 0, 0, 0, 0]
+    let shape = fields.shape();
+    let length = shape.head as u16 + bytes;
+    let [a, b] = length.to_le_bytes();
+    let [c, d] = shape.number.to_le_bytes();
+    [a, b, c, d]
+}
+
+// A frame, a head, and zeros behind it.
+pub fn behind<const N: usize>(frame: [u8; 4], head: [u8; N]) -> [u8; 12]
+    requires { N ≤ 8 }
+    ensures { result ≡ filled 12 (frame ++ head.entry) }
+{
+    let mut front = [0; 12];
+    front[..4].copy_from_slice(&frame);
+    front[4..4 + N].copy_from_slice(&head);
+    front
 }
 
 // Of an event, with a list of so many bytes.
-pub fn event(f: Four, event: Event, bytes: u16) -> [u8; 12]
+pub fn event(frame: [u8; 4], event: Event, bytes: u16) -> [u8; 12]
     requires { bytes ≤ 510 }
-    ensures { result ≡ filled 12 (in_order f ++ event_head event bytes) }
+    ensures { result ≡ filled 12 (frame ++ event_head event bytes) }
 {
     match event {
-        Event::Start { slot } => two(f, slot.0, (bytes / 2) as u8),
+        Event::Start { slot } => behind(frame, [slot.0, (bytes / 2) as u8]),
         Event::Call {
             slot,
             object,
             kind,
             argument,
-        } => call(f, slot, object, kind, argument),
-        Event::Release { slot, object } => two(f, slot.0, object.0),
-        Event::End {
-            slot,
-            tick,
-            rollback: _,
-        } => end(f, slot, tick),
+        } => {
+            let [a, b, c, d] = argument.to_le_bytes();
+            behind(frame, [slot.0, object.0, kind, 0, a, b, c, d])
+        }
+        Event::Release { slot, object } => behind(frame, [slot.0, object.0]),
+        Event::End { slot, tick, .. } => {
+            let [a, b, c, d] = tick.to_le_bytes();
+            behind(frame, [slot.0, a, b, c, d])
+        }
     }
 }
 
-fn call(f: Four, slot: SlotNo, object: ObjectNo, kind: u8, argument: u32) -> [u8; 12]
-    ensures { result ≡ filled 12 (in_order f ++ (slot.0 ∷ object.0 ∷ kind ∷ 0 ∷ word_bytes argument)) }
-{
-    let w = word(argument);
-    [
-        f.0, f.1, f.2, f.3, slot.0, object.0, kind, 0, w.0, w.1, w.2, w.3,
-    ]
-}
-
-// Of a start, slot and n; of a release, slot and object.
-fn two(f: Four, first: u8, second: u8) -> [u8; 12]
-    ensures { result ≡ filled 12 (in_order f ++ (first ∷ second ∷ [])) }
-{
-    [f.0, f.1, f.2, f.3, first, second, 0, 0, 0, 0, 0, 0]
-}
-
-// Of a commit and of a rollback.
-fn end(f: Four, slot: SlotNo, tick: u32) -> [u8; 12]
-    ensures { result ≡ filled 12 (in_order f ++ (slot.0 ∷ word_bytes tick)) }
-{
-    let w = word(tick);
-    [f.0, f.1, f.2, f.3, slot.0, w.0, w.1, w.2, w.3, 0, 0, 0]
-}
-
 // Of an end record with n entries.
-pub fn ended(f: Four, tick: u32, slot: SlotNo, n: u8) -> [u8; 12]
-    ensures { result ≡ filled 12 (in_order f ++ (word_bytes tick ++ (slot.0 ∷ n ∷ []))) }
+pub fn ended(frame: [u8; 4], tick: u32, slot: SlotNo, n: u8) -> [u8; 12]
+    ensures { result ≡ filled 12 (frame ++ (word_bytes tick ++ (slot.0 ∷ n ∷ []))) }
 {
-    let w = word(tick);
-    [f.0, f.1, f.2, f.3, w.0, w.1, w.2, w.3, slot.0, n, 0, 0]
+    let [a, b, c, d] = tick.to_le_bytes();
+    behind(frame, [a, b, c, d, slot.0, n])
 }

@@ -5,7 +5,6 @@ ghost use Rattle.std.specs.Prelude.{◌≤◌, ◌≡◌};
 ghost use Rattle.record_layout.specs.Fields.{front_of};
 ghost use Rattle.record_front.specs.Serving.Filled.{filled};
 
-mod fours;
 mod heads;
 
 use record_layout::fields::Fields;
@@ -16,14 +15,10 @@ pub fn front(fields: Fields, bytes: u16) -> [u8; 12]
     requires { bytes ≤ 510 }
     ensures { result ≡ filled 12 (front_of fields bytes) }
 {
-    let frame = fours::frame(fields, bytes);
+    let frame = heads::frame(fields, bytes);
     match fields {
-        Fields::Fresh { first } => heads::fresh(frame, first),
+        Fields::Fresh { first } => heads::behind(frame, first.0.to_le_bytes()),
         Fields::Event(event) => heads::event(frame, event, bytes),
-        Fields::Ended {
-            tick,
-            slot,
-            rollback: _,
-        } => heads::ended(frame, tick, slot, (bytes / 5) as u8),
+        Fields::Ended { tick, slot, .. } => heads::ended(frame, tick, slot, (bytes / 5) as u8),
     }
 }

@@ -5,8 +5,9 @@ use mathlib.Core.Logic.{◌≢◌}
 use mathlib.Core.Path.{◌≡◌, refl, ◌∙◌}
 use native.Mathlib.Nat.{add-zero}
 use native.Mathlib.Omega.{arith}
-use lib.ListN.{length, drop, length-drop}
+use lib.ListN.{length, take, drop, length-drop}
 use lib.Seq.{get_or-drop, drop-drop}
+use Rattle.std.proofs.lemmas.List.{take_rest}
 use Rattle.record_layout.specs.Bytes.{byte_at}
 use Rattle.record_layout.specs.Declarations.{declarations_of}
 
@@ -19,6 +20,11 @@ declarations_none : (l : List ℕ) → length l ≤ 1 → declarations_of l ≡ 
 declarations_none (object ∷ supremum ∷ rest) h = absurd (omega arith)
 declarations_none (object ∷ []) h = refl
 declarations_none [] h = refl
+
+-- what a pattern of two bytes and the rest sees
+pub declarations_first : (l : List ℕ) → 2 ≤ length l
+    → declarations_of l ≡ record { object = byte_at l 0; supremum = byte_at l 1 } ∷ declarations_of (take (length l - 2) (drop 2 l))
+declarations_first l long = declarations_front l (omega arith) ∙ rw take_rest
 
 pub declarations_next : (l : List ℕ) (at : ℕ) → 1 < length l - at
     → declarations_of (drop at l) ≡ record { object = byte_at l at; supremum = byte_at l (at + 1) } ∷ declarations_of (drop (at + 2) l)

@@ -1,13 +1,11 @@
 -- The entries of a record, one behind the other in the buffer.
-use Prim.Native.Nat.{ℕ, zero, suc, ◌+◌, ◌*◌, ◌/◌, ◌%◌, ◌≤◌, ◌<◌}
+use Prim.Native.Nat.{ℕ, zero, suc, ◌+◌, ◌*◌, ◌≤◌, ◌<◌}
 use mathlib.Core.Bool.{Bool, true, false}
-use mathlib.Core.List.{List, [], ◌∷◌, ◌++◌, append_assoc}
+use mathlib.Core.List.{List, [], ◌++◌}
 use mathlib.Core.Path.{◌≡◌, refl, sym, ap, ◌∙◌}
-use native.Mathlib.Numerals.{add-one, add-two, add-three, add-four}
 use native.Mathlib.Omega.{arith}
 use lib.Dec.{leb}
-use lib.ListN.{length, take, drop, set, length-append, length-drop, take-append-drop}
-use lib.Seq.{sets-eq}
+use lib.ListN.{length, take, drop, length-append, length-drop}
 use borrow.Author.Tests.{leb-true, leb-false}
 use Rattle.counters.specs.Sizes.{Size}
 use Rattle.record_front.proofs.Splicing.{put_behind}
@@ -16,42 +14,6 @@ use Rattle.rules.specs.Tables.{State, pair_at}
 use Rattle.rules.specs.Effects.{entry_of}
 use Rattle.rules.proofs.Walking.{join_zero, join_next, join_suc}
 use Rattle.leaf_end.proofs.Standings.{entries_to, entry_few}
-
--- an entry's bytes
-abbrev five_bytes : ℕ → ℕ → List ℕ
-five_bytes o version = o ∷ version % 256 ∷ version / 256 % 256 ∷ version / 256 / 256 % 256 ∷ version / 256 / 256 / 256 % 256 ∷ []
-
--- and the same stored one behind the other
-abbrev five_stored : List ℕ → ℕ → ℕ → ℕ → List ℕ
-five_stored l at o version =
-    set
-    (set
-    (set (set (set l at o) (at + 1) (version % 256)) (at + 2) (version / 256 % 256))
-    (at + 3)
-    (version / 256 / 256 % 256))
-    (at + 4)
-    (version / 256 / 256 / 256 % 256)
-
-module _ (o : ℕ) (pair : Pair) (l : List ℕ) (at : ℕ) where
-  pub no_entry : pair.declared ≡ false
-      → (at ≡ at + length (entry_of o pair)) × (l ≡ take at l ++ (entry_of o pair ++ drop (at + length (entry_of o pair)) l))
-  no_entry none =
-      let same : at + 0 ≡ at = omega arith in
-      rw none (sym same, sym (ap (λ (n : ℕ). take at l ++ drop n l) same ∙ take-append-drop at l))
-
-  -- five bytes fit
-  pub entry_room : pair.declared ≡ true → at + length (entry_of o pair) ≤ length l → at + 5 ≤ length l
-  entry_room declared room = rw declared at room
-
-  pub with_entry : pair.declared ≡ true → at + length (entry_of o pair) ≤ length l
-      → (at + 5 ≡ at + length (entry_of o pair))
-      × (five_stored l at o pair.private.0 ≡ take at l ++ (entry_of o pair ++ drop (at + length (entry_of o pair)) l))
-  with_entry declared room =
-      let entry : List ℕ = five_bytes o pair.private.0 in
-      let fits : at + 5 ≤ length l = entry_room declared room in
-      let stored : five_stored l at o pair.private.0 ≡ take at l ++ (entry ++ drop (at + 5) l) =
-      rw (add-one at, add-two at, add-three at, add-four at) (sets-eq entry l at (omega arith) ∙ append_assoc (take at l) entry (drop (at + 5) l)) in
-      rw declared (refl, stored)
 
 -- what the walk keeps: the entries of the objects passed stand at the front
 pub record Entering (z : Size) (t : State) (s n at : ℕ) (l₀ l : List ℕ) : Type 0 where

@@ -59,11 +59,9 @@ fn look(words: &[u32], bytes: &[u8], marks: &[bool], size: Size, s: u32) -> Stan
     ensures { (result ≡ standing_of size (view size words.now bytes.now marks.now) s) × (result.bytes ≤ 5 * size.objects) }
 {
     let mut standing = Standing::of_none();
-    let mut o: u32 = 0;
-    while o < size.objects as u32 {
+    for o in 0..size.objects as u32 {
         let pair = tables::pair_at(words, bytes, marks, size, s, o);
         standing = standing.add(pair, tables::object_at(words, size, o));
-        o = o + 1;
     }
     standing
 }
@@ -80,10 +78,8 @@ fn settle(
     requires { Fits size words.old bytes.old marks.old × (s < size.slots) }
     ensures { Become size words.old bytes.old marks.old words.new bytes.new marks.new (each_below size.objects (λ o t. end_cleared size rollback s o t)) }
 {
-    let mut o: u32 = 0;
-    while o < size.objects as u32 {
+    for o in 0..size.objects as u32 {
         settle_one(words, bytes, marks, size, s, o, rollback);
-        o = o + 1;
     }
 }
 

@@ -44,10 +44,8 @@ fn entries(words: &[u32], bytes: &[u8], marks: &[bool], size: Size, s: u32, buf:
     ensures { buf.new ≡ end_entries size s (view size words.now bytes.now marks.now) ++ drop (length (end_entries size s (view size words.now bytes.now marks.now))) buf.old }
 {
     let mut at: u32 = 0;
-    let mut o: u32 = 0;
-    while o < size.objects as u32 {
+    for o in 0..size.objects as u32 {
         at = entry(o, tables::pair_at(words, bytes, marks, size, s, o), at, buf);
-        o = o + 1;
     }
 }
 
@@ -60,12 +58,7 @@ fn entry(o: u32, pair: Pair, at: u32, buf: &mut [u8]) -> u32
         return at;
     }
     let i = at as usize;
-    let version = pair.private;
-    let private = version.0;
     buf[i] = o as u8;
-    buf[i + 1] = (private % 256) as u8;
-    buf[i + 2] = (private / 256 % 256) as u8;
-    buf[i + 3] = (private / 256 / 256 % 256) as u8;
-    buf[i + 4] = (private / 256 / 256 / 256 % 256) as u8;
+    buf[i + 1..i + 5].copy_from_slice(&pair.private.0.to_le_bytes());
     at + 5
 }

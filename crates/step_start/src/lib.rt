@@ -42,10 +42,8 @@ fn clear(words: &mut [u32], bytes: &mut [u8], marks: &mut [bool], size: Size, s:
     requires { Fits size words.old bytes.old marks.old × (s < size.slots) }
     ensures { Become size words.old bytes.old marks.old words.new bytes.new marks.new (clear_slot size s) }
 {
-    let mut o: u32 = 0;
-    while o < size.objects as u32 {
+    for o in 0..size.objects as u32 {
         tables::store_pair(words, bytes, marks, size, s, o, Pair::none());
-        o = o + 1;
     }
 }
 
@@ -61,18 +59,16 @@ fn declare_all(
     requires { Fits size words.old bytes.old marks.old × (s < size.slots) × ListedBelow size.objects (declarations_of list.now) }
     ensures { Become size words.old bytes.old marks.old words.new bytes.new marks.new (declare_all size s (declarations_of list.now)) }
 {
-    let mut next: usize = 0;
-    while 1 < list.len() - next {
+    for declaration in list.chunks_exact(2) {
         declare(
             words,
             bytes,
             marks,
             size,
             s,
-            list[next] as u32,
-            list[next + 1],
+            declaration[0] as u32,
+            declaration[1],
         );
-        next = next + 2;
     }
 }
 
@@ -89,7 +85,6 @@ fn declare(
     ensures { Become size words.old bytes.old marks.old words.new bytes.new marks.new (declare_one size s o supremum) }
 {
     let given = tables::object_at(words, size, o).give_out();
-    let private = given.global;
     tables::store_object(words, size, o, given);
     tables::store_pair(
         words,
@@ -98,7 +93,7 @@ fn declare(
         size,
         s,
         o,
-        Pair::declare(supremum, private),
+        Pair::declare(supremum, given.global),
     );
 }
 
@@ -122,8 +117,7 @@ fn begin_objects(words: &mut [u32], size: Size, first: Version, given: &[u32])
     requires { (length words.old ≡ words_long size) × (length given.now ≡ size.objects) }
     ensures { WordsBecome size words.old words.new (each_below size.objects (begin_object first.0 given.now)) }
 {
-    let mut o: u32 = 0;
-    while o < size.objects as u32 {
+    for o in 0..size.objects as u32 {
         let object = Object {
             word: given[o as usize],
             global: first,
@@ -131,7 +125,6 @@ fn begin_objects(words: &mut [u32], size: Size, first: Version, given: &[u32])
             terminal: first,
         };
         tables::store_object(words, size, o, object);
-        o = o + 1;
     }
 }
 
@@ -140,10 +133,8 @@ fn begin_slots(words: &mut [u32], bytes: &mut [u8], marks: &mut [bool], size: Si
     requires { Fits size words.old bytes.old marks.old }
     ensures { Become size words.old bytes.old marks.old words.new bytes.new marks.new (each_below size.slots (begin_slot size)) }
 {
-    let mut s: u32 = 0;
-    while s < size.slots as u32 {
+    for s in 0..size.slots as u32 {
         clear(words, bytes, marks, size, s);
         tables::store_live(marks, size, s, false);
-        s = s + 1;
     }
 }

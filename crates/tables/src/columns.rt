@@ -1,6 +1,5 @@
 // Walks along the marks: whether a slot is doomed, and the spoiling of an object's callers.
-ghost use Rattle.std.specs.Prelude.{ℕ, ◌≤◌, ◌<◌, true, ◌&&◌, List, ◌≡◌, length};
-ghost use Rattle.answers.specs.Order.{pick};
+ghost use Rattle.std.specs.Prelude.{ℕ, ◌≤◌, ◌<◌, List, ◌≡◌, length};
 ghost use Rattle.rules.specs.Refusing.{doomed};
 ghost use Rattle.rules.specs.Walks.{each_below};
 ghost use Rattle.tables.specs.Places.{marks_long};
@@ -17,10 +16,8 @@ pub fn doomed(marks: &[bool], size: Size, s: u32) -> bool
 {
     let from = places::spoiled(size, places::pair(size, s, 0));
     let mut found = false;
-    let mut o: u32 = 0;
-    while o < size.objects as u32 {
-        found = answers::either(found, marks[(from + o) as usize]);
-        o = o + 1;
+    for o in 0..size.objects as u32 {
+        found |= marks[(from + o) as usize];
     }
     found
 }
@@ -30,27 +27,10 @@ pub fn spoil_callers(marks: &mut [bool], size: Size, o: u32, asked: u8)
     requires { (length marks.old ≡ marks_long size) × (o < size.objects) × (asked ≤ size.slots) }
     ensures { MarksBecome size marks.old marks.new (each_below asked (λ r u. spoil_caller size o r u)) }
 {
-    let mut called = places::called(size, o);
-    let mut spoiled = places::spoiled(size, o);
-    let mut r: u32 = 0;
-    while r < asked as u32 {
-        let at = spoiled as usize;
-        marks[at] = spoil(marks[r as usize], marks[called as usize], marks[at]);
-        called = called + size.objects as u32;
-        spoiled = spoiled + size.objects as u32;
-        r = r + 1;
+    for r in 0..asked as u32 {
+        let i = places::pair(size, r, o);
+        if marks[r as usize] & marks[places::called(size, i) as usize] {
+            marks[places::spoiled(size, i) as usize] = true;
+        }
     }
-}
-
-// R17: the spoiled mark of a slot on an object whose word is put back.
-fn spoil(live: bool, called: bool, spoiled: bool) -> bool
-    ensures { result ≡ pick (live && called) true spoiled }
-{
-    if !live {
-        return spoiled;
-    }
-    if called {
-        return true;
-    }
-    spoiled
 }

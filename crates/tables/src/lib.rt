@@ -31,13 +31,10 @@ pub fn store_object(words: &mut [u32], size: Size, o: u32, object: Object)
     ensures { WordsBecome size words.old words.new (λ t. with_object t o object) }
 {
     let at = (4 * o) as usize;
-    let global = object.global;
-    let local = object.local;
-    let terminal = object.terminal;
     words[at] = object.word;
-    words[at + 1] = global.0;
-    words[at + 2] = local.0;
-    words[at + 3] = terminal.0;
+    words[at + 1] = object.global.0;
+    words[at + 2] = object.local.0;
+    words[at + 3] = object.terminal.0;
 }
 
 pub fn live_at(marks: &[bool], size: Size, s: u32) -> bool
@@ -90,12 +87,10 @@ pub fn store_pair(
     let declared = places::declared(size, i) as usize;
     let called = places::called(size, i) as usize;
     let spoiled = places::spoiled(size, i) as usize;
-    let private = pair.private;
-    let count = pair.count;
-    words[at] = private.0;
+    words[at] = pair.private.0;
     words[at + 1] = pair.saved;
     bytes[b] = pair.supremum;
-    bytes[b + 1] = count.0;
+    bytes[b + 1] = pair.count.0;
     marks[declared] = pair.declared;
     marks[called] = pair.called;
     marks[spoiled] = pair.spoiled;

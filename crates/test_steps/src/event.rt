@@ -1,35 +1,11 @@
-// The events of a session: a kind with the numbers of a line for its fields, or the bytes of a record.
+// The fields of an event by the numbers of a line.
 use counters::{ObjectNo, SlotNo, Version};
-use machine::{Stepped, Tables};
 use record_layout::fields::{Event, Fields};
 use record_layout::kind::{Kind, KindFound, of_number};
 use test_text::numbers::Numbers;
 
-#[derive(Clone, Copy)]
-pub enum Given {
-    Record,
-    Fields(Fields),
-}
-
-impl Given {
-    // An event by the number of its kind, where 0 stands for a record; an unknown one is taken for that of a fresh record.
-    pub fn numbered(kind: u32, given: &Numbers<'_>) -> Given {
-        match kind {
-            0 => Given::Record,
-            _ => Given::Fields(fields(numbered(kind), given)),
-        }
-    }
-
-    // A start's list and a record's bytes stand behind the first number of the line.
-    pub fn step(self, tables: Tables, list: &[u8], lent: &mut [u8]) -> Stepped {
-        match self {
-            Given::Record => events::step_record(tables, list, lent),
-            Given::Fields(fields) => events::step(tables, fields, list, lent),
-        }
-    }
-}
-
-fn numbered(number: u32) -> Kind {
+// The kind of a number; an unknown one is taken for that of a fresh record.
+pub fn kind(number: u32) -> Kind {
     match u16::try_from(number).map(of_number) {
         Ok(KindFound::Known(kind)) => kind,
         _ => Kind::Fresh,

@@ -1,9 +1,9 @@
 // A session: its lines are played on tables, and tables can be kept to go back to.
 use crate::asked::{Asked, Edit};
-use crate::event::{Given, fields};
+use crate::event::{fields, kind};
 use crate::told::{FILLING, Told};
 use counters::Version;
-use machine::Tables;
+use machine::{Stepped, Tables};
 use record_layout::kind::Kind;
 use std::alloc::{AllocError, Global};
 use test_tables::changes::Changes;
@@ -11,6 +11,9 @@ use test_tables::given;
 use test_tables::looks::{object_in, pair_in};
 use test_text::numbers::Numbers;
 use test_text::scan::after;
+
+// Stands for the number of a kind where the bytes of a record are given.
+const RECORD: u32 = 0;
 
 #[derive(Clone, Copy)]
 pub struct Session {
@@ -30,19 +33,19 @@ impl Session {
 
     // The room of an end stands behind its tick, and that of a record first; an event by the number of its kind has 16 bytes.
     pub fn turn(&mut self, alloc: Global, line: &[u8]) -> Result<Told, AllocError> {
-        let numbers = Numbers::of(alloc, line)?;
         let Some(asked) = Asked::of(line) else {
             return Ok(Told::Nothing);
         };
+        let numbers = Numbers::of(alloc, line)?;
         match asked {
-            Asked::Event(kind) => {
-                let event = Given::Fields(fields(kind, &numbers));
-                self.event(alloc, event, &numbers, numbers.at(2))
-            }
-            Asked::Record => self.event(alloc, Given::Record, &numbers, numbers.at(0)),
+            Asked::Event(kind) => self.event(alloc, kind, &numbers, numbers.at(2)),
+            Asked::Record => self.step(alloc, &numbers, numbers.at(0), events::step_record),
             Asked::Step => {
                 let given = Numbers::of(alloc, after(line, b':'))?;
-                self.event(alloc, Given::numbered(numbers.at(0), &given), &given, 16)
+                match numbers.at(0) {
+                    RECORD => self.step(alloc, &given, 16, events::step_record),
+                    number => self.event(alloc, kind(number), &given, 16),
+                }
             }
             Asked::Calls => {
                 self.calls(numbers.at(0), &Numbers::of(alloc, after(line, b':'))?);
@@ -75,17 +78,34 @@ impl Session {
         }
     }
 
-    // The buffer that is lent has at most 136 bytes.
+    // An event by its fields.
     fn event(
         &mut self,
         alloc: Global,
-        event: Given,
-        numbers: &Numbers<'_>,
+        kind: Kind,
+        given: &Numbers<'_>,
         room: u32,
     ) -> Result<Told, AllocError> {
+        let fields = fields(kind, given);
+        self.step(alloc, given, room, |tables, list, lent| {
+            events::step(tables, fields, list, lent)
+        })
+    }
+
+    // A start's list and a record's bytes stand behind the first number. The buffer that is lent has at most 136 bytes.
+    fn step<F: FnOnce(Tables, &[u8], &mut [u8]) -> Stepped>(
+        &mut self,
+        alloc: Global,
+        given: &Numbers<'_>,
+        room: u32,
+        step: F,
+    ) -> Result<Told, AllocError>
+        requires { F.IsAlwaysCallable step }
+    {
+        let list = given.rest(alloc)?;
         let mut lent = vec![in alloc; FILLING; (room % 137) as usize]?;
         let before = self.tables;
-        let stepped = event.step(before, &numbers.rest(alloc)?, &mut lent);
+        let stepped = step(before, &list, &mut lent);
         self.tables = stepped.tables;
         Ok(Told::Event {
             answer: stepped.answer,

@@ -1,5 +1,5 @@
 // Bytes as text: two hexadecimal digits behind a space or another sign; behind a plus they count zeros.
-ghost use Rattle.std.specs.Prelude.{◌≤◌};
+ghost use Rattle.std.specs.Prelude.{◌≤◌, IfOk, vec_len};
 
 use std::alloc::{AllocError, Global};
 use std::fmt;
@@ -7,7 +7,9 @@ use std::fmt;
 // The longest record that is read; what goes on behind it is left out.
 const LIMIT: usize = 600;
 
-pub fn decode(alloc: Global, text: &[u8]) -> Result<Vec<u8>, AllocError> {
+pub fn decode(alloc: Global, text: &[u8]) -> Result<Vec<u8>, AllocError>
+    ensures { IfOk result (λ bytes. vec_len bytes ≤ 600) }
+{
     let mut record = Vec::new(alloc);
     for group in text.chunks_exact(3) {
         let value = 16 * digit(group[1]) + digit(group[2]);
@@ -53,5 +55,33 @@ impl fmt::Display for Part<'_> {
         let length = self.0.len();
         let shown = Bytes(self.0.get(..8).unwrap_or(self.0));
         write!(f, "{shown} of {length}")
+    }
+}
+
+#[cfg(test)]
+mod tests {
+    use super::*;
+    use std::test::Fail;
+
+    #[test]
+    fn bytes_and_zeros(rt: HostRuntime) -> Result<(), Fail> {
+        let record = decode(rt.alloc(), b" 0A+02/FF 0")?;
+        assert_eq!(rt; record.as_slice(), [10u8, 0, 0, 255].as_slice());
+        Ok(())
+    }
+
+    #[test]
+    fn no_more_than_the_limit(rt: HostRuntime) -> Result<(), Fail> {
+        let record = decode(rt.alloc(), b"+FF+FF+FF 07")?;
+        assert_eq!(rt; record.len(), LIMIT);
+        Ok(())
+    }
+
+    #[test]
+    fn the_front_of_a_part(rt: HostRuntime) -> Result<(), Fail> {
+        let alloc = rt.alloc();
+        let shown = Part(&[1, 2, 3, 4, 5, 6, 7, 254, 9]).to_string(alloc)?;
+        assert_eq!(rt; shown.as_str(), " 01 02 03 04 05 06 07 FE of 9");
+        Ok(())
     }
 }

@@ -1,4 +1,6 @@
 // The decimal numbers among the words of a line, up to a remark behind '#'.
+ghost use Rattle.std.specs.Prelude.{◌≤◌};
+
 use crate::scan::before;
 use std::alloc::{AllocError, Global};
 
@@ -19,7 +21,9 @@ impl<'a> Numbers<'a> {
     }
 
     // The places up to the one of the last number.
-    pub fn count(&self) -> usize {
+    pub fn count(&self) -> usize
+        ensures { result ≤ 136 }
+    {
         match self.0.len() {
             0 => 0,
             numbers => (numbers - 1) % PLACES + 1,
@@ -33,6 +37,7 @@ impl<'a> Numbers<'a> {
             .skip(place)
             .step_by(PLACES)
             .flat_map(|digits| digits.iter())
+            // A digit's lower half is its value.
             .fold(0u32, |number, digit| {
                 number
                     .wrapping_mul(10)
@@ -50,5 +55,37 @@ impl<'a> Numbers<'a> {
         (1..self.count())
             .map(|place| self.byte(place))
             .collect(alloc)
+    }
+}
+
+#[cfg(test)]
+mod tests {
+    use super::*;
+    use std::test::Fail;
+
+    #[test]
+    fn up_to_a_remark(rt: HostRuntime) -> Result<(), Fail> {
+        let alloc = rt.alloc();
+        let numbers = Numbers::of(alloc, b"start slot 0 with 3:258 # and 7")?;
+        assert_eq!(rt; numbers.count(), 3);
+        assert_eq!(rt; numbers.at(2), 258);
+        assert_eq!(rt; numbers.at(3), 0);
+        assert_eq!(rt; numbers.rest(alloc)?.as_slice(), [3u8, 2].as_slice());
+        Ok(())
+    }
+
+    #[test]
+    fn one_more_than_places(rt: HostRuntime) -> Result<(), Fail> {
+        let alloc = rt.alloc();
+        let mut line = Vec::new(alloc);
+        for _ in 0..PLACES {
+            line.extend_from_slice(b"4 ")?;
+        }
+        line.extend_from_slice(b"2")?;
+        let numbers = Numbers::of(alloc, &line)?;
+        assert_eq!(rt; numbers.count(), 1);
+        assert_eq!(rt; numbers.at(0), 42);
+        assert_eq!(rt; numbers.at(1), 4);
+        Ok(())
     }
 }

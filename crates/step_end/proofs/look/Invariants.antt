@@ -1,10 +1,6 @@
-use Rattle.std.proofs.Common.{◌-◌}
 use Rattle.leaf_end.proofs.Standings.{StandsSoFar}
 use Rattle.tables.specs.Views.{view}
 use Rattle.step_end.proofs.look.Given as goal
 
 abbrev pub invariant-loop-o : goal.invariant-loop-o
 invariant-loop-o l = StandsSoFar l.size (view l.size l.words l.bytes l.marks) l.s l.o l.standing
-
-abbrev pub decreases-loop-o : goal.decreases-loop-o
-decreases-loop-o l = l.size.objects - l.o

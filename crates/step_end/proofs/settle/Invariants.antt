@@ -1,4 +1,3 @@
-use Rattle.std.proofs.Common.{◌-◌}
 use Rattle.leaf_end.specs.Serving.Ends.{end_cleared}
 use Rattle.tables.proofs.Walk.{Walk}
 use Rattle.step_end.proofs.settle.Given as goal
@@ -6,6 +5,3 @@ use Rattle.step_end.proofs.settle.Given as goal
 abbrev pub invariant-loop-o : goal.invariant-loop-o
 invariant-loop-o l =
     Walk l.size (λ q t. end_cleared l.size l.rollback l.s q t) l.size.objects l.initial.words l.initial.bytes l.initial.marks l.o l.words l.bytes l.marks
-
-abbrev pub decreases-loop-o : goal.decreases-loop-o
-decreases-loop-o l = l.size.objects - l.o

@@ -1,25 +1,33 @@
-use Rattle.std.proofs.Common.{sym, arith}
+use Rattle.std.proofs.Common.{◌<◌, sym, ap, ◌∙◌, arith}
 use Rattle.rules.proofs.Walking.{each_zero}
+use Rattle.tables.specs.Places.{called_place, spoiled_place}
 use Rattle.tables.specs.Views.{view}
 use Rattle.tables.specs.Serving.Changes.{spoil_caller}
-use Rattle.tables.proofs.Products.{pairs_few}
-use Rattle.tables.proofs.MarkWalks.{spoils_on}
+use Rattle.tables.proofs.MarkWalks.{caller_spoiled, other_kept, spoils_on}
 use Rattle.tables.proofs.columns.spoil_callers.Goals as goal
+use Rattle.tables.proofs.columns.spoil_callers.Goals.{then-marks-r, else-marks-r}
 
 pub loop-r-init : goal.loop-r-init
 loop-r-init c =
     let a = c.args in
-    record {
-      within = c.requires.2;
-      reached = omega arith;
-      object = c.requires.1;
-      called_at = omega (arith, c.called-called.ensures);
-      spoiled_at = omega (arith, c.spoiled-spoiled.ensures);
-      few = omega (arith, pairs_few a.size.slots a.size.objects (omega arith) (omega arith));
-      become = (c.requires.0, λ w b. sym (each_zero (λ r u. spoil_caller a.size a.o r u) (view a.size w b a.marks.now)));
-    }
+    (c.requires.0, λ w b. sym (each_zero (λ r t. spoil_caller a.size a.o r t) (view a.size w b a.marks.now)))
 
 pub loop-r-preserved : goal.loop-r-preserved
 loop-r-preserved c =
-    spoils_on c.args.size c.args.o c.args.asked c.loop-r.r c.loop-r.called c.loop-r.spoiled c.args.marks.now c.loop-r.marks c.loop-r.invariant
-    c.loop-r-test.true c.spoil.result c.spoil.ensures
+    let a = c.args in
+    let r = c.loop-r.r in
+    let k = c.loop-r.marks in
+    let slot : r < a.size.slots = omega arith in
+    let called = c.called.ensures ∙ ap (called_place a.size) c.pair-i.ensures.0 in
+    let on = spoils_on a.size a.o r a.marks.now k c.loop-r.invariant c.if-marks-r.marks c.if-marks-r.auto.marks in
+    elim c.if-marks-r.branch [
+      | then-marks-r u ↦
+          on (λ w b.
+          ap (view a.size w b) u.marks-is
+          ∙ caller_spoiled a.size w b k c.loop-r.invariant.0 r a.o slot c.requires.1 c.called.result called
+          u.spoiled.result (u.spoiled.ensures ∙ ap (spoiled_place a.size) c.pair-i.ensures.0) u.if-marks-r.true)
+      | else-marks-r u ↦
+          on (λ w b.
+          ap (view a.size w b) u.marks-is
+          ∙ other_kept a.size w b k c.loop-r.invariant.0 r a.o slot c.requires.1 c.called.result called u.if-marks-r.false)
+    ]
