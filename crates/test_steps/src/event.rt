@@ -1,15 +1,15 @@
 // The fields of an event by the numbers of a line.
 use counters::{ObjectNo, SlotNo, Version};
 use record_layout::fields::{Event, Fields};
-use record_layout::kind::{Kind, KindFound, of_number};
+use record_layout::kind::Kind;
 use test_text::numbers::Numbers;
 
 // The kind of a number; an unknown one is taken for that of a fresh record.
 pub fn kind(number: u32) -> Kind {
-    match u16::try_from(number).map(of_number) {
-        Ok(KindFound::Known(kind)) => kind,
-        _ => Kind::Fresh,
-    }
+    let Ok(number) = u16::try_from(number) else {
+        return Kind::Fresh;
+    };
+    Kind::try_from(number).unwrap_or(Kind::Fresh)
 }
 
 // The fields of a kind, in the order in which they stand.
