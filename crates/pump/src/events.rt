@@ -47,15 +47,10 @@ pub fn step(
 ) -> Answer
     ensures { left_with words.new bytes.new marks.new result buf.new ≡ fields_step base (held words.old bytes.old marks.old) fields list.now buf.old }
 {
-    match fields {
-        Fields::Fresh { first: _ } => Answer::Refused(Refusal::BadRecord),
-        Fields::Event(event) => step_event(words, bytes, marks, event, list, buf),
-        Fields::Ended {
-            tick: _,
-            slot: _,
-            rollback: _,
-        } => Answer::Refused(Refusal::BadRecord),
-    }
+    let Fields::Event(event) = fields else {
+        return Answer::Refused(Refusal::BadRecord);
+    };
+    step_event(words, bytes, marks, event, list, buf)
 }
 
 // What was read, and the list beside it. A refusal of the reading is handed on.
