@@ -109,5 +109,10 @@ fn pair_words(live: bool, pair: Pair) -> [u32; 8]
 pub extern "C" fn gustlantern_raw_marks_hold(marks: &[u8; 1168]) -> u32
     ensures { result ≡ marks_hold marks.now }
 {
-    u32::from(marks.iter().all(|mark| *mark <= 1))
+    for mark in marks {
+        if 1 < *mark {
+            return 0;
+        }
+    }
+    1
 }
