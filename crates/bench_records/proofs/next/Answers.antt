@@ -2,7 +2,7 @@
 use Rattle.std.proofs.Common.{◌≡◌, ℕ, Bool, true, false, ltb, Option, is_some, List, [], ◌∷◌, length, sym, refl, ap, ◌∙◌, arith, ltb-false}
 use Rattle.std.specs.Bool.{then_some}
 use Rattle.std.specs.Option.{unwrap_or, option_map}
-use Rattle.answers.specs.Numbers.{Reply, reply_of, refused}
+use Rattle.answers.specs.Numbers.{reply_of, refused}
 use Rattle.answers.specs.declared.Answer.{Answer}
 use Rattle.answers.specs.declared.Refusal.TheVariants.{BadRecord}
 use Rattle.counters.specs.Sizes.{base}
@@ -10,7 +10,6 @@ use Rattle.pump.specs.Held.{held}
 use Rattle.record_layout.proofs.Telling.{reading_tells}
 use Rattle.record_layout.specs.Reading.{reading, list_in, listing}
 use Rattle.record_layout.specs.declared.fields.Reading.{Reading}
-use Rattle.rules.specs.Tables.{State}
 use Rattle.rules.specs.Steps.{Outcome, read_step}
 use Rattle.bench_records.specs.Records.{end_buffer, stops_at, taken_by}
 use Rattle.bench_records.proofs.next.Goals as goal
