@@ -1,9 +1,10 @@
 -- No byte behind a piece changes what is read in front of it, where the record there is certain to be whole.
-use Rattle.record_layout.specs.Reading.{read_as, length_field, kind_field, frame_rules, body, reading_of, reading, list_in, listing, Reading}
+use Rattle.record_layout.specs.Reading.{length_field, kind_field, frame_rules, body, reading_of, reading, list_in, listing, Reading}
 use Rattle.std.specs.Prelude.{Err, Ok}
-use Rattle.std.proofs.Common.{◌≡◌, ℕ, ◌+◌, ◌-◌, ◌<◌, ◌≤◌, Bool, true, false, ◌&&◌, ◌||◌, ltb, leb, List, [], ◌++◌, length, take, drop, sym, refl, ap, ◌∙◌, append-nil, arith, length-append, length-drop, ltb-false, le-ltb, lt-ltb, le-leb, leb-true}
+use Rattle.std.proofs.Common.{◌≡◌, ℕ, ◌+◌, ◌-◌, ◌≤◌, Bool, true, false, ltb, List, [], ◌++◌, length, take, drop, sym, refl, ap, ◌∙◌, append-nil, arith, length-append, length-drop, ltb-false, le-ltb, lt-ltb}
 use lib.ListN.{get_or-append}
 use lib.Seq.{take-append-le, drop-append-le}
+use Rattle.std.proofs.lemmas.Bool.Decides.{nat_tests}
 use Rattle.answers.proofs.Deciding.{NoneHolds, passed}
 use Rattle.answers.specs.Order.{pick, decide}
 use Rattle.answers.specs.declared.Refusal.{Refusal}
@@ -15,7 +16,6 @@ use Rattle.record_layout.proofs.WriteBack.{list_inside, taken_inside}
 use Rattle.bench_records.specs.Records.{first_read, next_read}
 use Rattle.bench_play.specs.Bench.{Stage, answer_at}
 use Rattle.bench_play.specs.Pieces.{whole, certain}
-use Rattle.bench_play.proofs.Turns.{clash}
 
 half_same : (piece rest : List ℕ) → 2 ≤ length piece → half_of (piece ++ rest) ≡ half_of piece
 half_same piece rest h = rw (get_or-append piece rest 0 0 (omega arith), get_or-append piece rest 0 1 (omega arith))
@@ -99,19 +99,7 @@ module _ (z : Size) (piece rest : List ℕ) (enough : Enough z piece) where
       λ i. pick stage.begun (next_read z stage.tables (reading_same i) (list_same i) (prints_same i)) (first_read z (reading_same i) (list_same i))
 
 whole_enough : (z : Size) (bytes : List ℕ) → whole z bytes ≡ true → Enough z bytes
-whole_enough z bytes = go (leb 4 (length bytes)) (ltb (body_limit z) (length_field bytes)) (leb (4 + length_field bytes) (length bytes)) refl refl refl
-  where
-    go : (framed long bodied : Bool) → leb 4 (length bytes) ≡ framed → ltb (body_limit z) (length_field bytes) ≡ long
-        → leb (4 + length_field bytes) (length bytes) ≡ bodied → (framed && (long || bodied)) ≡ true → Enough z bytes
-    go false long bodied e f g wrong = clash (sym wrong)
-    go true true bodied e f g all =
-        record {
-          framed = leb-true 4 (length bytes) e;
-          bodied = λ fits. clash (sym f ∙ le-ltb (body_limit z) (length_field bytes) fits);
-        }
-    go true false false e f g wrong = clash (sym wrong)
-    go true false true e f g all =
-        record { framed = leb-true 4 (length bytes) e; bodied = λ fits. leb-true (4 + length_field bytes) (length bytes) g }
+whole_enough z bytes all = record { framed = grind (arith, nat_tests); bodied = λ fits. grind (arith, nat_tests) }
 
 -- what is certain in a piece is what the whole input gives; behind the end of the input there is nothing
 pub certain_same : (ended : Bool) (stage : Stage) (piece rest : List ℕ) → certain base ended piece ≡ true → (ended ≡ true → rest ≡ [])

@@ -1,12 +1,13 @@
 -- One turn over a piece: what it writes, and what is left to be played.
-use Rattle.std.proofs.Common.{◌≡◌, ℕ, ◌+◌, ◌-◌, ◌<◌, ◌≤◌, Bool, true, false, not, ◌&&◌, leb, List, length, drop, sym, refl, ap, ◌∙◌, arith, length-drop, drop-drop, leb-true}
+use Rattle.std.proofs.Common.{◌≡◌, ℕ, ◌+◌, ◌-◌, ◌<◌, ◌≤◌, Bool, true, false, List, length, drop, sym, refl, ap, ◌∙◌, arith, length-drop, drop-drop}
+use Rattle.std.proofs.lemmas.Bool.Decides.{nat_tests}
 use Rattle.answers.specs.Order.{pick}
 use Rattle.counters.specs.Sizes.{base}
 use Rattle.bench_lines.specs.Lines.{line_limit}
 use Rattle.bench_records.specs.Records.{Answering}
 use Rattle.bench_play.specs.Bench.{Stage, answer_at, printed_for, stage_behind, Playing, played_before, all_played}
 use Rattle.bench_play.specs.Pieces.{certain, playable}
-use Rattle.bench_play.proofs.Turns.{clash, answer_advances, one_turn}
+use Rattle.bench_play.proofs.Turns.{answer_advances, one_turn}
 use Rattle.bench_play.proofs.Writing.{placed, written_behind, one_written}
 
 -- what it means that a record is played
@@ -17,14 +18,8 @@ pub record Ready (ended : Bool) (room : ℕ) (stage : Stage) (bytes : List ℕ) 
 
 pub ready : (ended : Bool) (room : ℕ) (stage : Stage) (bytes : List ℕ) (used : ℕ)
     → playable base ended room stage bytes used ≡ true → Ready ended room stage bytes used
-ready ended room stage bytes used = go stage.stopped (certain base ended bytes) (leb line_limit (room - used)) refl refl refl
-  where
-    go : (stopped sure roomy : Bool) → stage.stopped ≡ stopped → certain base ended bytes ≡ sure → leb line_limit (room - used) ≡ roomy
-        → (not stopped && (sure && roomy)) ≡ true → Ready ended room stage bytes used
-    go true sure roomy e f g wrong = clash (sym wrong)
-    go false false roomy e f g wrong = clash (sym wrong)
-    go false true false e f g wrong = clash (sym wrong)
-    go false true true e f g all = record { running = e; sure = f; roomy = leb-true line_limit (room - used) g }
+ready ended room stage bytes used on =
+    record { running = grind (arith, nat_tests); sure = grind (arith, nat_tests); roomy = grind (arith, nat_tests) }
 
 -- a stopped bench plays nothing
 pub stopped_plays_nothing : (ended : Bool) (room : ℕ) (stage : Stage) (bytes : List ℕ) (used : ℕ)

@@ -2,6 +2,7 @@
 use Rattle.record_layout.specs.Reading.{read_as, reading, listing, Reading}
 use Rattle.std.specs.Prelude.{Err, Ok}
 use Rattle.std.proofs.Common.{◌≡◌, ℕ, zero, suc, ◌+◌, ◌<◌, ◌≤◌, Bool, true, false, List, length, drop, sym, refl, ap, ◌∙◌, arith, length-drop}
+use Rattle.std.proofs.lemmas.Bool.{true≢false}
 use Rattle.answers.specs.Order.{pick}
 use Rattle.counters.specs.Sizes.{base}
 use Rattle.record_layout.specs.declared.fields.Fields.{Fields}
@@ -16,15 +17,12 @@ pub record Advances (here : Answering) (bytes : List ℕ) : Type 0 where
   pub takes : here.stops ≡ false → 0 < here.taken
   pub inside : here.taken ≤ length bytes
 
-pub clash : {A : Type 0} → ◌≡◌ {A = Bool} true false → A
-clash wrong = let apart : ◌≡◌ {A = ℕ} 0 1 = cc in absurd (omega arith)
-
 step_advances : (t : State) (bytes : List ℕ) → Advances (bench_step base t bytes) bytes
 step_advances t bytes = record { takes = go (reading base bytes) refl; inside = taken_inside base bytes }
   where
     go : (read : Reading) → reading base bytes ≡ read → stops_at read ≡ false → 0 < taken_by read
     go (Ok read) e going = some_taken base bytes read.fields read.list read.taken e
-    go (Err refusal) e going = clash going
+    go (Err refusal) e going = absurd (true≢false going)
 
 first_advances : (bytes : List ℕ) → Advances (first_step base bytes) bytes
 first_advances bytes = record { takes = go (reading base bytes) refl; inside = first_inside base bytes }
@@ -32,12 +30,12 @@ first_advances bytes = record { takes = go (reading base bytes) refl; inside = f
     opens : (fields : Fields) (at taken : ℕ) → reading base bytes ≡ read_as fields at taken
         → (first_fields base fields (listing base bytes) taken).stops ≡ false → 0 < (first_fields base fields (listing base bytes) taken).taken
     opens (Fields.Fresh first) at taken e going = some_taken base bytes (Fields.Fresh first) at taken e
-    opens (Fields.Event event) at taken e going = clash going
-    opens (Fields.Ended tick slot rollback) at taken e going = clash going
+    opens (Fields.Event event) at taken e going = absurd (true≢false going)
+    opens (Fields.Ended tick slot rollback) at taken e going = absurd (true≢false going)
 
     go : (read : Reading) → reading base bytes ≡ read → (first_read base read (listing base bytes)).stops ≡ false → 0 < (first_read base read (listing base bytes)).taken
     go (Ok read) e going = opens read.fields read.list read.taken e going
-    go (Err refusal) e going = clash going
+    go (Err refusal) e going = absurd (true≢false going)
 
 pub answer_advances : (stage : Stage) (bytes : List ℕ) → Advances (answer_at base stage bytes) bytes
 answer_advances stage bytes = go stage.begun

@@ -1,13 +1,14 @@
 -- Where nothing of a piece is taken and the bench has not stopped, it waits for input: the input has not ended, and less than a longest record is at hand.
-use Rattle.std.proofs.Common.{◌≡◌, ℕ, ◌+◌, ◌-◌, ◌<◌, ◌≤◌, Bool, true, false, ◌&&◌, ◌||◌, ltb, leb, List, length, drop, sym, refl, ap, ◌∙◌, arith, ltb-false, le-leb, leb-false}
+use Rattle.std.proofs.Common.{◌≡◌, ℕ, ◌+◌, ◌<◌, ◌≤◌, Bool, true, false, List, length, drop, sym, refl, ap, ◌∙◌, arith}
+use Rattle.std.proofs.lemmas.Bool.{true≢false}
+use Rattle.std.proofs.lemmas.Bool.Decides.{nat_tests}
 use Rattle.counters.specs.Sizes.{base}
 use Rattle.record_layout.specs.Kinds.{body_limit}
-use Rattle.record_layout.specs.Reading.{length_field}
 use Rattle.bench_lines.specs.Lines.{line_limit}
 use Rattle.bench_records.specs.Records.{Answering}
 use Rattle.bench_play.specs.Bench.{Stage, answer_at, printed_for, stage_behind, Playing, played_before, all_played}
 use Rattle.bench_play.specs.Pieces.{whole, playable, piece_played}
-use Rattle.bench_play.proofs.Turns.{clash, answer_advances, one_turn, no_turn}
+use Rattle.bench_play.proofs.Turns.{answer_advances, one_turn, no_turn}
 use Rattle.bench_play.proofs.PieceTurns.{stopped_plays_nothing}
 
 pub record Waits (ended : Bool) (bytes : List ℕ) : Type 0 where
@@ -15,15 +16,7 @@ pub record Waits (ended : Bool) (bytes : List ℕ) : Type 0 where
   pub few : length bytes < 4 + body_limit base
 
 torn_is_short : (bytes : List ℕ) → whole base bytes ≡ false → length bytes < 4 + body_limit base
-torn_is_short bytes = go (leb 4 (length bytes)) (ltb (body_limit base) (length_field bytes)) (leb (4 + length_field bytes) (length bytes)) refl refl refl
-  where
-    go : (framed long bodied : Bool) → leb 4 (length bytes) ≡ framed → ltb (body_limit base) (length_field bytes) ≡ long
-        → leb (4 + length_field bytes) (length bytes) ≡ bodied → (framed && (long || bodied)) ≡ false → length bytes < 4 + body_limit base
-    go false long bodied e f g torn = omega (arith, leb-false 4 (length bytes) e)
-    go true true bodied e f g torn = clash torn
-    go true false true e f g torn = clash torn
-    go true false false e f g torn =
-        omega (arith, leb-false (4 + length_field bytes) (length bytes) g, ltb-false (body_limit base) (length_field bytes) f)
+torn_is_short bytes torn = grind (arith, nat_tests)
 
 module _ (ended : Bool) (room : ℕ) (stage : Stage) (bytes : List ℕ) where
   -- what a record that is played comes to
@@ -53,18 +46,14 @@ module _ (ended : Bool) (room : ℕ) (stage : Stage) (bytes : List ℕ) where
           absurd (omega (arith, (answer_advances stage bytes).takes e, none, ap (λ (p : Playing). p.taken) (first_turn on)))
 
   not_played_lem : playable base ended room stage bytes 0 ≡ false → stage.stopped ≡ false → line_limit ≤ room → Waits ended bytes
-  not_played_lem off running roomy = go ended (whole base bytes) refl refl
-    where
-      go : (end sure : Bool) → ended ≡ end → whole base bytes ≡ sure → Waits ended bytes
-      go true sure e f = clash (rw (running, e, le-leb line_limit (room - 0) (omega arith)) at (off))
-      go false true e f = clash (rw (running, e, f, le-leb line_limit (room - 0) (omega arith)) at (off))
-      go false false e f = record { going_on = e; few = torn_is_short bytes f }
+  not_played_lem off running roomy =
+      record { going_on = grind (arith, nat_tests); few = torn_is_short bytes (grind (arith, nat_tests)) }
 
   pub waits_for_more : line_limit ≤ room → (piece_played ended room stage bytes).taken ≡ 0 → (piece_played ended room stage bytes).stage.stopped ≡ false → Waits ended bytes
   waits_for_more roomy none running = go (playable base ended room stage bytes 0) refl
     where
       go : (on : Bool) → playable base ended room stage bytes 0 ≡ on → Waits ended bytes
-      go true e = clash (sym (takes_or_stops e none) ∙ running)
+      go true e = absurd (true≢false (sym (takes_or_stops e none) ∙ running))
       go false e =
           let same : stage.stopped ≡ false =
           ap (λ (p : Playing). p.stage.stopped) (sym (no_turn (playable base ended room) (stopped_plays_nothing ended room) stage bytes 0 e)) ∙ running in

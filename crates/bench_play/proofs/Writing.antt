@@ -1,9 +1,9 @@
 -- The lines of records behind those that stand in the buffer already.
-use Rattle.std.proofs.Common.{◌≡◌, ℕ, ◌+◌, ◌≤◌, List, ◌++◌, length, take, drop, sym, ap, ◌∙◌, append_assoc, add-zero, add_assoc, zero-add, arith, length-append, length-drop, take-append-drop, length-take-le, drop-drop, take_at}
+use Rattle.std.proofs.Common.{◌≡◌, ℕ, ◌+◌, ◌≤◌, List, ◌++◌, length, take, drop, sym, ap, ◌∙◌, append_assoc, add-zero, add_assoc, arith, length-append, length-drop, take-append-drop, length-take-le, drop-drop, take_at}
 use lib.Seq.{drop-append-add}
 use Rattle.bench_lines.specs.Buffers.{lent}
 use Rattle.bench_play.specs.Bench.{Stage, Playing, not_played, played_before}
-use Rattle.bench_play.specs.Pieces.{Written, written_into}
+use Rattle.bench_play.specs.Pieces.{Written}
 
 -- text in a buffer at a place where it has room
 abbrev pub placed : List ℕ → ℕ → List ℕ → List ℕ

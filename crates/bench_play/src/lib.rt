@@ -62,21 +62,15 @@ impl Bench {
         ensures given { answered (unprinted self.old.begun) (view self.new.tables) result ≡ answer_at base (stage_of self.old) bytes.now }
         ensures behind { stage_of self.new ≡ stage_behind (stage_of self.old) (answer_at base (stage_of self.old) bytes.now) }
     {
-        let tables = &mut self.tables;
+        let Tables {
+            words,
+            bytes: counts,
+            marks,
+        } = &mut self.tables;
         let here = if self.begun {
-            bench_records::next(
-                &mut tables.words,
-                &mut tables.bytes,
-                &mut tables.marks,
-                bytes,
-            )
+            bench_records::next(words, counts, marks, bytes)
         } else {
-            bench_records::first(
-                &mut tables.words,
-                &mut tables.bytes,
-                &mut tables.marks,
-                bytes,
-            )
+            bench_records::first(words, counts, marks, bytes)
         };
         self.begun = true;
         self.event = self.event.wrapping_add(1);

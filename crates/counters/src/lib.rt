@@ -19,11 +19,11 @@ pub struct Size {
 }
 
 // R2: a version, modulo 2^32.
-#[derive(Clone, Copy, PartialEq, Eq)]
+#[derive(Clone, Copy, Default, PartialEq, Eq)]
 pub struct Version(pub u32);
 
 // R3: the count of a pair.
-#[derive(Clone, Copy, PartialEq, Eq)]
+#[derive(Clone, Copy, Default, PartialEq, Eq)]
 pub struct CallCount(pub u8);
 
 #[derive(Clone, Copy)]

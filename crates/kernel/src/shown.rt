@@ -1,6 +1,5 @@
 // What the library shows beside events: the order of two records, an object, a pair, and whether marks are right.
-ghost use Rattle.std.specs.Prelude.{false, ◌≡◌, get_or, leb};
-ghost use Rattle.std.specs.List.{list_all};
+ghost use Rattle.std.specs.Prelude.{false, ◌≡◌, get_or};
 ghost use Rattle.answers.specs.Numbers.{reply_of};
 ghost use Rattle.answers.specs.declared.Reply.{Reply};
 ghost use Rattle.counters.specs.Sizes.{base};
@@ -110,18 +109,10 @@ fn pair_words(live: bool, pair: Pair) -> [u32; 8]
 pub extern "C" fn gustlantern_raw_marks_hold(marks: &[u8; 1168]) -> u32
     ensures { result ≡ marks_hold marks.now }
 {
-    u32::from(are_marks(marks))
-}
-
-fn are_marks(bytes: &[u8]) -> bool
-    ensures { result ≡ list_all (λ byte. leb byte 1) bytes.now }
-{
-    let mut left = bytes;
-    while let [byte, rest @ ..] = left {
-        if 1 < *byte {
-            return false;
+    for mark in marks {
+        if 1 < *mark {
+            return 0;
         }
-        left = rest;
     }
-    true
+    1
 }

@@ -1,5 +1,5 @@
--- A start: what its verdict says of its step and of its list, and the loop that declares the listed objects.
-use Prim.Native.Nat.{ℕ, ◌+◌, ◌-◌, ◌≤◌, ◌<◌}
+-- A start: what its verdict says of its step and of its list.
+use Prim.Native.Nat.{ℕ, ◌+◌, ◌<◌}
 use mathlib.Core.Bool.{Bool, true, false}
 use mathlib.Core.List.{List, [], ◌∷◌}
 use mathlib.Core.Logic.{◌⊎◌, inl, inr}
@@ -7,7 +7,7 @@ use mathlib.Core.Path.{◌≡◌, refl, sym, ap, ◌∙◌}
 use native.Mathlib.Omega.{arith}
 use borrow.Author.Tests.{leb-false}
 use lib.Dec.{leb}
-use lib.ListN.{length, drop, get_or}
+use lib.ListN.{length}
 use Rattle.answers.proofs.Deciding.{Accepts, decided}
 use Rattle.answers.proofs.Deciding as deciding
 use Rattle.answers.specs.Numbers.{accepted}
@@ -15,8 +15,7 @@ use Rattle.answers.specs.Order.{Rule, decide, Verdict, refuses, passes}
 use Rattle.answers.specs.declared.Refusal.{Refusal}
 use Rattle.counters.specs.Sizes.{Size}
 use Rattle.record_layout.specs.Declarations.{Declaration, declarations_of}
-use Rattle.record_layout.proofs.DeclarationWalk.{declarations_next, declarations_end}
-use Rattle.rules.specs.Effects.{clear_slot, declare_one, declare_all, start_effect}
+use Rattle.rules.specs.Effects.{clear_slot, declare_all, start_effect}
 use Rattle.rules.specs.Refusing.{start_rules}
 use Rattle.rules.specs.Steps.{Stepping, unchanged, start_step}
 use Rattle.rules.specs.Tables.{State, live_at, with_live}
@@ -29,39 +28,7 @@ rises_below : (z : Size) (least : ℕ) (declarations : List Declaration) → Ris
 rises_below z least [] rises = tt
 rises_below z least (declaration ∷ rest) rises = (rises.inside, rises_below z (declaration.object + 1) rest rises.behind)
 
--- what the loop keeps: what is left of the list is declared in the tables as they are now
-pub record Declaring (z : Size) (s : ℕ) (list : List ℕ) (next : ℕ) (t₀ t : State) : Type 0 where
-  pub reached : next ≤ length list
-  pub within : ListedBelow z.objects (declarations_of (drop next list))
-  pub declared : declare_all z s (declarations_of list) t₀ ≡ declare_all z s (declarations_of (drop next list)) t
-
-module _ {z : Size} {s : ℕ} {list : List ℕ} {next : ℕ} {t₀ t : State} (declaring : Declaring z s list next t₀ t) where
-  module _ (more : 1 < length list - next) where
-    abbrev first : Declaration
-    first = record { object = get_or list next 0; supremum = get_or list (next + 1) 0 }
-
-    left_within : ListedBelow z.objects (first ∷ declarations_of (drop (next + 2) list))
-    left_within = rw (declarations_next list next more) at declaring.within
-
-    pub next_within : get_or list next 0 < z.objects
-    next_within = left_within.0
-
-    -- a turn
-    pub declares_on : (u : State) → u ≡ declare_one z s (get_or list next 0) (get_or list (next + 1) 0) t → Declaring z s list (next + 2) t₀ u
-    declares_on u one =
-        record {
-          reached = omega arith;
-          within = left_within.1;
-          declared =
-              declaring.declared
-              ∙ ap (λ (l : List Declaration). declare_all z s l t) (declarations_next list next more)
-              ∙ ap (declare_all z s (declarations_of (drop (next + 2) list))) (sym one);
-        }
-
-  pub declares_all : length list - next ≤ 1 → t ≡ declare_all z s (declarations_of list) t₀
-  declares_all none = sym (declaring.declared ∙ ap (λ (l : List Declaration). declare_all z s l t) (declarations_end list next none))
-
-all_pass : (rules : List Rule) → decide rules refuses passes ≡ passes → deciding.NoneHolds rules
+all_pass : (rules : List Rule) → decide rules Refuses Passes ≡ Passes → deciding.NoneHolds rules
 all_pass rules e = go (decided rules)
   where
     go : Accepts rules ⊎ deciding.OneHolds rules → deciding.NoneHolds rules

@@ -7,7 +7,7 @@ ghost use Rattle.objects.specs.Places.{turn_of, given_out, let_go, settled, rest
 use counters::{CallCount, Turn, Version};
 
 // R4: what is kept of an object.
-#[derive(Clone, Copy, PartialEq, Eq)]
+#[derive(Clone, Copy, Default, PartialEq, Eq)]
 pub struct Object {
     pub word: u32,
     pub global: Version,
@@ -16,7 +16,7 @@ pub struct Object {
 }
 
 // R4: what is kept of a slot and an object.
-#[derive(Clone, Copy, PartialEq, Eq)]
+#[derive(Clone, Copy, Default, PartialEq, Eq)]
 pub struct Pair {
     pub declared: bool,
     pub supremum: u8,
@@ -78,15 +78,7 @@ impl Pair {
     pub fn none() -> Pair
         ensures { result ≡ no_pair }
     {
-        Pair {
-            declared: false,
-            supremum: 0,
-            private: Version(0),
-            count: CallCount(0),
-            called: false,
-            spoiled: false,
-            saved: 0,
-        }
+        Pair::default()
     }
 
     // R12: a pair as a start leaves it.

@@ -6,11 +6,12 @@ use native.Mathlib.Omega.{arith}
 use lib.ListN.{length, get_or}
 use Rattle.counters.specs.Sizes.{Size}
 use Rattle.record_layout.specs.Declarations.{Declaration, declarations_of}
+use Rattle.record_layout.proofs.DeclarationWalk.{declarations_none}
 use Rattle.leaf_start.specs.Serving.Listed.{ListedBelow}
 use Rattle.rules.specs.Effects.{declare_one, declare_all}
 use Rattle.rules.specs.Tables.{State}
 
--- a declaration is two bytes, and fewer are none
+-- a declaration is two bytes
 abbrev declared_by : List ℕ → Declaration
 declared_by two = record { object = get_or two 0 0; supremum = get_or two 1 0 }
 
@@ -19,11 +20,6 @@ first_declared [] rest long = absurd (omega (arith, long))
 first_declared (object ∷ []) rest long = absurd (omega (arith, long))
 first_declared (object ∷ supremum ∷ []) rest long = refl
 first_declared (object ∷ supremum ∷ more ∷ others) rest long = absurd (omega (arith, long))
-
-none_declared : (left : List ℕ) → length left < 2 → declarations_of left ≡ []
-none_declared [] few = refl
-none_declared (object ∷ []) few = refl
-none_declared (object ∷ supremum ∷ more) few = absurd (omega (arith, few))
 
 pub record Declaring (z : Size) (s : ℕ) (list left : List ℕ) (t₀ t : State) : Type 0 where
   pub within : ListedBelow z.objects (declarations_of left)
@@ -51,4 +47,4 @@ module _ {z : Size} {s : ℕ} {list left : List ℕ} {t₀ t : State} (declaring
         }
 
   pub declares_all : length left < 2 → t ≡ declare_all z s (declarations_of list) t₀
-  declares_all few = sym (declaring.declared ∙ ap (λ (l : List Declaration). declare_all z s l t) (none_declared left few))
+  declares_all few = sym (declaring.declared ∙ ap (λ (l : List Declaration). declare_all z s l t) (declarations_none left (omega arith)))

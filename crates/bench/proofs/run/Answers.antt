@@ -1,5 +1,5 @@
 -- Where the program waits for input, there is room behind the bytes that stay at hand.
-use Rattle.std.proofs.Common.{ℕ, arith, take, drop, length-append, length-drop}
+use Rattle.std.proofs.Common.{ℕ, arith, take, length-append, length-drop}
 use Rattle.bench_play.specs.Pieces.{stage_of}
 use Rattle.bench.proofs.Room.{few_stay}
 use Rattle.bench.proofs.run.Goals as goal

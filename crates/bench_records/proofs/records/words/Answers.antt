@@ -1,4 +1,4 @@
-use Rattle.std.proofs.Common.{◌≡◌, ℕ, sym, ◌∙◌, rules}
+use Rattle.std.proofs.Common.{sym, ◌∙◌, rules}
 use Rattle.bench_records.proofs.Wording.{from_fn_gives, word_in, words_are}
 use Rattle.bench_records.proofs.records.words.Goals as goal
 
