@@ -28,7 +28,7 @@ rises_below : (z : Size) (least : ℕ) (declarations : List Declaration) → Ris
 rises_below z least [] rises = tt
 rises_below z least (declaration ∷ rest) rises = (rises.inside, rises_below z (declaration.object + 1) rest rises.behind)
 
-all_pass : (rules : List Rule) → decide rules Refuses Passes ≡ Passes → deciding.NoneHolds rules
+all_pass : (rules : List Rule) → decide rules refuses passes ≡ passes → deciding.NoneHolds rules
 all_pass rules e = go (decided rules)
   where
     go : Accepts rules ⊎ deciding.OneHolds rules → deciding.NoneHolds rules
