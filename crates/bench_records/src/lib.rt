@@ -33,18 +33,14 @@ pub fn first(
     ensures { answered (accepted 0) (held words.new counts.new marks.new) result ≡ first_step base bytes.now }
 {
     let read = record_read::read(bytes);
-    let Reading::Record {
-        fields,
-        list,
-        taken,
-    } = read
-    else {
+    let Reading::Record { fields, taken, .. } = read else {
         return not_fresh(words, counts, marks, read.refusal());
     };
     let Fields::Fresh { first } = fields else {
         return not_fresh(words, counts, marks, Refusal::BadRecord);
     };
-    fresh(words, counts, marks, first, &bytes[list..taken], taken)
+    let list = record_read::list_of(read, bytes);
+    fresh(words, counts, marks, first, list, taken)
 }
 
 fn fresh(

@@ -4,12 +4,12 @@ use Rattle.answers.specs.declared.Refusal.TheVariants.{BadRecord}
 use Rattle.counters.specs.Sizes.{base}
 use Rattle.counters.specs.declared.Version.{Version}
 use Rattle.record_layout.proofs.Telling.{reading_tells}
-use Rattle.record_layout.proofs.WriteBack.{list_inside, taken_inside, list_long}
+use Rattle.record_layout.proofs.WriteBack.{list_long}
 use Rattle.record_layout.specs.Reading.{reading, list_in, refusal_of}
 use Rattle.record_layout.specs.Telling.{told_by_reading}
 use Rattle.record_layout.specs.declared.fields.Fields.{Fields}
 use Rattle.record_layout.specs.declared.fields.Reading.{Reading}
-use Rattle.bench_records.specs.Records.{not_fresh, first_fields, first_read, first_step}
+use Rattle.bench_records.specs.Records.{begins_with, not_fresh, first_fields, first_read, first_step}
 use Rattle.bench_records.proofs.first.Goals as goal
 
 -- what the first record gives, by what it reads as
@@ -33,20 +33,11 @@ returns-in_default c =
     ∙ ap (not_fresh base) (c.refusal.ensures ∙ ap refusal_of c.in_default.is)
     ∙ known c.args.bytes.now _ (sym (reading_tells _ _ c.read-read.ensures) ∙ c.in_default.is)
 
-pub slice_bounds-fresh-count : goal.slice_bounds-fresh-count
-slice_bounds-fresh-count c = list_inside base c.args.bytes.now _ _ _ (is_read c.args.bytes.now _ _ _ _ c.in-Record.ensures c.in-Fresh.is)
-
-pub slice_bounds-fresh-start : goal.slice_bounds-fresh-start
-slice_bounds-fresh-start c = list_inside base c.args.bytes.now _ _ _ (is_read c.args.bytes.now _ _ _ _ c.in-Record.ensures c.in-Fresh.is)
-
-pub slice_bounds-fresh-end : goal.slice_bounds-fresh-end
-slice_bounds-fresh-end c = taken_inside base c.args.bytes.now _ _ _ (is_read c.args.bytes.now _ _ _ _ c.in-Record.ensures c.in-Fresh.is)
-
 pub fresh-requires : goal.fresh-requires
 fresh-requires c =
     let s = c.args.bytes.now in
     let e = is_read s _ _ _ _ c.in-Record.ensures c.in-Fresh.is in
-    sym (ap (λ (r : Reading). length (list_in r s)) e) ∙ list_long base s _ _ _ e
+    ap length c.list_of-list.ensures.bytes ∙ sym (ap (λ (r : Reading). length (list_in r s)) e) ∙ list_long base s _ _ _ e
 
 pub returns-in_default-fields : goal.returns-in_default-fields
 returns-in_default-fields c =
@@ -55,4 +46,8 @@ returns-in_default-fields c =
     ∙ known c.args.bytes.now _ (sym (reading_tells _ _ c.in-Record.ensures))
 
 pub returns : goal.returns
-returns c = c.fresh.ensures ∙ known c.args.bytes.now _ (is_read c.args.bytes.now _ _ _ _ c.in-Record.ensures c.in-Fresh.is)
+returns c =
+    let s = c.args.bytes.now in
+    c.fresh.ensures
+    ∙ ap (λ (list : List ℕ). begins_with base c.in-Fresh.first list c.in-Record.taken) c.list_of-list.ensures.bytes
+    ∙ known s _ (is_read s _ _ _ _ c.in-Record.ensures c.in-Fresh.is)
