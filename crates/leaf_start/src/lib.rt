@@ -8,23 +8,22 @@ ghost use Rattle.rules.specs.Refusing.{start_rules, declaration_rules};
 
 use answers::{Refusal, Verdict};
 use counters::{Size, SlotNo};
+use record_bytes::lists::Declarations;
 
 // R22: of each declaration in turn, 2 and 3.
-#[tactic(auto, using(record_layout::proofs::DeclarationWalk::declarations_first))]
 fn declarations(size: Size, list: &[u8]) -> Verdict
     ensures { result ≡ decide (declaration_rules size 0 (declarations_of list.now)) refuses passes }
 {
     let mut least: u8 = 0;
-    let mut left = list;
-    while let [object, _, rest @ ..] = left {
-        if size.objects <= *object {
+    for declaration in Declarations(list) {
+        let object = declaration.object.0;
+        if size.objects <= object {
             return Err(Refusal::BadObject);
         }
-        if *object < least {
+        if object < least {
             return Err(Refusal::BadList);
         }
-        least = *object + 1;
-        left = rest;
+        least = object + 1;
     }
     Ok(())
 }

@@ -1,1 +1,1 @@
-pub mod EntriesLeft
+pub mod ListsLeft

@@ -1,14 +1,15 @@
-// Numbers at a place of bytes, and the entries of an end: one after the other, and whether an end may list them.
+// Numbers at a place of bytes, what the list of a record holds, and whether an end may have its list.
 #![tactic(auto)]
 
 ghost use Rattle.std.specs.Prelude.{◌+◌, ◌≤◌, ◌≡◌, ◌&&◌, length, drop, ltb};
-ghost use Rattle.std.specs.Iterator.{YieldsFirstBy, item_count};
 ghost use Rattle.counters.specs.Sizes.{base};
 ghost use Rattle.record_layout.specs.Bytes.{half_of, word_of};
 ghost use Rattle.record_layout.specs.Entries.{entries_of, rising_from};
-ghost use Rattle.record_bytes.specs.EntriesLeft.{as_listed, entries_left};
 
-use counters::{OBJECTS, ObjectNo, SLOTS, SlotNo, Version};
+pub mod lists;
+
+use counters::{OBJECTS, SLOTS, SlotNo};
+use lists::Entries;
 
 pub fn half(s: &[u8], at: usize) -> u16
     requires { at + 2 ≤ length s.now }
@@ -22,38 +23,6 @@ pub fn word(s: &[u8], at: usize) -> u32
     ensures { result ≡ word_of (drop at s.now) }
 {
     u32::from_le_bytes([s[at], s[at + 1], s[at + 2], s[at + 3]])
-}
-
-// R24: an object and its version.
-#[derive(Clone, Copy)]
-pub struct Entry {
-    pub object: ObjectNo,
-    pub version: Version,
-}
-
-// The entries that a list of bytes holds whole, first to last.
-#[derive(Clone, Copy)]
-pub struct Entries<'a>(pub &'a [u8]);
-
-impl<'a> Iterator for Entries<'a> {
-    type Item = Entry;
-
-    ghost next_gives = { YieldsFirstBy as_listed entries_left };
-
-    ghost remaining = { item_count entries_left };
-
-    #[inline(always)]
-    #[tactic(auto, using(record_layout::proofs::EntryWalk::entries_first))]
-    fn next(&mut self) -> Option<Entry> {
-        let [object, a, b, c, d, rest @ ..] = self.0 else {
-            return None;
-        };
-        self.0 = rest;
-        Some(Entry {
-            object: ObjectNo(*object),
-            version: Version(u32::from_le_bytes([*a, *b, *c, *d])),
-        })
-    }
 }
 
 // Whether the objects are all below the number of objects, each above the one before.

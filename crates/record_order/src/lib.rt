@@ -8,7 +8,7 @@ ghost use Rattle.record_order.specs.CameFirst.{meeting_of, is_end, came_first, o
 
 use answers::Refusal;
 use counters::Comparison;
-use record_bytes::Entries;
+use record_bytes::lists::Entries;
 use record_layout::fields::{Fields, Reading, Record};
 
 // R36: what two versions of one object say; R35: none where no object is listed by both; R34: one of the two is no end record.

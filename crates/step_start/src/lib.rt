@@ -16,6 +16,7 @@ ghost use Rattle.tables.specs.Serving.Changes.{Become, WordsBecome, Steps};
 use answers::Answer;
 use counters::{Size, SlotNo, Version};
 use objects::{Object, Pair};
+use record_bytes::lists::Declarations;
 use tables::places;
 
 pub fn start(
@@ -59,15 +60,15 @@ fn declare_all(
     requires { Fits size words.old bytes.old marks.old × (s < size.slots) × ListedBelow size.objects (declarations_of list.now) }
     ensures { Become size words.old bytes.old marks.old words.new bytes.new marks.new (declare_all size s (declarations_of list.now)) }
 {
-    for declaration in list.chunks_exact(2) {
+    for declaration in Declarations(list) {
         declare(
             words,
             bytes,
             marks,
             size,
             s,
-            declaration[0] as u32,
-            declaration[1],
+            declaration.object.0 as u32,
+            declaration.supremum,
         );
     }
 }

@@ -2,7 +2,7 @@
 use Rattle.std.proofs.Common.{◌≡◌}
 use Rattle.counters.specs.Sizes.{base}
 use Rattle.record_layout.specs.Entries.{entries_of, rising_from}
-use Rattle.record_bytes.specs.EntriesLeft.{entries_left}
+use Rattle.record_bytes.specs.ListsLeft.{entries_left}
 use Rattle.record_bytes.proofs.rise.Given as goal
 
 abbrev pub invariant-loop-entry : goal.invariant-loop-entry

@@ -1,12 +1,18 @@
--- What the loop of `step_start::declare_all` keeps.
+-- The declarations that are still to come are of objects in range, and make of the tables as they are what all make of those at first.
 use Rattle.std.proofs.Common.{◌≡◌}
+use Rattle.leaf_start.specs.Serving.Listed.{ListedBelow}
+use Rattle.record_bytes.specs.ListsLeft.{declarations_left}
+use Rattle.record_layout.specs.Declarations.{declarations_of}
+use Rattle.rules.specs.Effects.{declare_all}
 use Rattle.tables.specs.Places.{Fits}
 use Rattle.tables.specs.Views.{view}
-use Rattle.step_start.proofs.Declared.{Declaring}
 use Rattle.step_start.proofs.declare_all.Given as goal
 
 abbrev pub invariant-loop-declaration : goal.invariant-loop-declaration
-invariant-loop-declaration l =
-    (l.declaration-iterator.size ≡ 2)
-    × Fits l.size l.words l.bytes l.marks
-    × Declaring l.size l.s l.list l.declaration-iterator.rest.now (view l.size l.fn.words l.fn.bytes l.fn.marks) (view l.size l.words l.bytes l.marks)
+invariant-loop-declaration l = record {
+  fits : Fits l.size l.words l.bytes l.marks;
+  within : ListedBelow l.size.objects (declarations_left l.declaration-iterator);
+  declared :
+      declare_all l.size l.s (declarations_of l.list) (view l.size l.fn.words l.fn.bytes l.fn.marks)
+      ≡ declare_all l.size l.s (declarations_left l.declaration-iterator) (view l.size l.words l.bytes l.marks);
+}
