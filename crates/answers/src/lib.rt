@@ -1,7 +1,7 @@
-// The refusals with their numbers, an answer with its value, and the verdict of an event's rules.
+// The refusals with their numbers, an answer and what a caller sees of it, and the verdict of an event's rules.
 #![tactic(auto)]
 
-ghost use Rattle.std.specs.Prelude.{◌≡◌, ◌||◌};
+ghost use Rattle.std.specs.Prelude.{◌≡◌};
 ghost use Rattle.answers.specs.Numbers.{number_of, reply_of};
 
 // R20: the refusals in the order of their numbers.
@@ -54,11 +54,4 @@ impl From<Answer> for Reply {
             },
         }
     }
-}
-
-// a or b, with no branch for a caller's loop to join.
-pub fn either(a: bool, b: bool) -> bool
-    ensures { result ≡ (a || b) }
-{
-    if a { true } else { b }
 }

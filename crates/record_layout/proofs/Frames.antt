@@ -11,7 +11,7 @@ use Rattle.answers.proofs.Deciding.{NoneHolds, passed}
 use Rattle.counters.specs.Sizes.{Size}
 use Rattle.record_layout.specs.Bytes.{half_bytes}
 use Rattle.record_layout.specs.Kinds.{kind_of, body_limit}
-use Rattle.record_layout.specs.Reading.{length_field, kind_field, frame_rules, body, reading_of, reading, Reading}
+use Rattle.record_layout.specs.Reading.{length_field, kind_field, frame_rules, body, reading_of, reading}
 use Rattle.record_layout.proofs.LittleEndian.{half_back}
 
 -- R24: the length of the body, the kind, and what stands behind them

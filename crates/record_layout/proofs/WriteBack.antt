@@ -2,7 +2,7 @@
 use Rattle.record_layout.proofs.Telling.{within_ok}
 use Rattle.record_layout.specs.declared.fields.Record.{Record}
 use Rattle.record_layout.specs.Reading.{read_as, length_field, kind_field, frame_rules, body, content_right, body_rules, reading_of, reading, list_in, listing, Reading}
-use Rattle.std.specs.Prelude.{Option, Some, None, Err, Ok}
+use Rattle.std.specs.Prelude.{Option, Some, None, Err}
 use Prim.Native.Nat.{ℕ, zero, suc, ◌+◌, ◌-◌, ◌*◌, ◌/◌, ◌≤◌, ◌<◌}
 use mathlib.Core.Bool.{Bool, true, false}
 use mathlib.Core.List.{List, [], ◌∷◌, ◌++◌}

@@ -69,19 +69,10 @@ impl Event {
         ensures { result ≡ kind_of_event self }
     {
         match self {
-            Event::Start { slot: _ } => Kind::Start,
-            Event::Call {
-                slot: _,
-                object: _,
-                kind: _,
-                argument: _,
-            } => Kind::Call,
-            Event::Release { slot: _, object: _ } => Kind::Release,
-            Event::End {
-                slot: _,
-                tick: _,
-                rollback,
-            } => Kind::End { rollback },
+            Event::Start { .. } => Kind::Start,
+            Event::Call { .. } => Kind::Call,
+            Event::Release { .. } => Kind::Release,
+            Event::End { rollback, .. } => Kind::End { rollback },
         }
     }
 }
@@ -91,13 +82,9 @@ impl Fields {
         ensures { result ≡ kind_of_fields self }
     {
         match self {
-            Fields::Fresh { first: _ } => Kind::Fresh,
+            Fields::Fresh { .. } => Kind::Fresh,
             Fields::Event(event) => event.kind(),
-            Fields::Ended {
-                tick: _,
-                slot: _,
-                rollback,
-            } => Kind::Ended { rollback },
+            Fields::Ended { rollback, .. } => Kind::Ended { rollback },
         }
     }
 
