@@ -9,9 +9,9 @@ use std::fmt;
 
 #[derive(Clone, Copy, PartialEq, Eq)]
 pub struct Changes {
-    objects: usize,
-    slots: usize,
-    pairs: usize,
+    pub objects: usize,
+    pub slots: usize,
+    pub pairs: usize,
 }
 
 impl Changes {
@@ -21,13 +21,17 @@ impl Changes {
         pairs: 0,
     };
 
-    pub fn between(old: &Tables, new: &Tables) -> Changes {
+    pub fn between(old: &Tables, new: &Tables) -> Changes
+        ensures objects { result.objects ≤ 24 }
+        ensures slots { result.slots ≤ 16 }
+        ensures pairs { result.pairs ≤ 384 }
+    {
         let objects = (0..OBJECTS)
-            .map(|object| ObjectNo(object))
+            .map(ObjectNo)
             .filter(|object| object_in(old, *object) != object_in(new, *object))
             .count();
         let slots = (0..SLOTS)
-            .map(|slot| SlotNo(slot))
+            .map(SlotNo)
             .filter(|slot| looks::live(&old.marks, *slot) != looks::live(&new.marks, *slot))
             .count();
         let mut pairs = 0;
@@ -46,7 +50,7 @@ fn pairs_between(old: &Tables, new: &Tables, slot: SlotNo) -> usize
     ensures { result ≤ 24 }
 {
     (0..OBJECTS)
-        .map(|object| ObjectNo(object))
+        .map(ObjectNo)
         .filter(|object| pair_in(old, slot, *object) != pair_in(new, slot, *object))
         .count()
 }

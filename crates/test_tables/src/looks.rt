@@ -1,15 +1,25 @@
 // What stands in the tables: an object, or a pair.
+ghost use Rattle.std.specs.Prelude.{◌≡◌, get_or};
+ghost use Rattle.counters.specs.Sizes.{base};
+ghost use Rattle.rules.specs.Tables.{no_object};
+ghost use Rattle.tables.specs.Views.{objects_of};
+ghost use Rattle.pump.specs.Looks.{pair_seen};
+
 use counters::{ObjectNo, SlotNo};
 use machine::Tables;
 use objects::{Object, Pair};
 use pump::looks;
 use std::fmt;
 
-pub fn object_in(tables: &Tables, number: ObjectNo) -> Object {
+pub fn object_in(tables: &Tables, number: ObjectNo) -> Object
+    ensures { result ≡ get_or (objects_of base tables.now.words) number.0 no_object }
+{
     looks::object(&tables.words, number)
 }
 
-pub fn pair_in(tables: &Tables, slot: SlotNo, number: ObjectNo) -> Pair {
+pub fn pair_in(tables: &Tables, slot: SlotNo, number: ObjectNo) -> Pair
+    ensures { result ≡ pair_seen tables.now.words tables.now.bytes tables.now.marks slot.0 number.0 }
+{
     looks::pair(&tables.words, &tables.bytes, &tables.marks, slot, number)
 }
 
