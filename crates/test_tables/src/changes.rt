@@ -7,7 +7,7 @@ use machine::Tables;
 use pump::looks;
 use std::fmt;
 
-#[derive(Clone, Copy, PartialEq, Eq)]
+#[derive(Clone, Copy, Default, PartialEq, Eq)]
 pub struct Changes {
     pub objects: usize,
     pub slots: usize,
@@ -15,12 +15,6 @@ pub struct Changes {
 }
 
 impl Changes {
-    pub const NONE: Changes = Changes {
-        objects: 0,
-        slots: 0,
-        pairs: 0,
-    };
-
     pub fn between(old: &Tables, new: &Tables) -> Changes
         ensures objects { result.objects ≤ 24 }
         ensures slots { result.slots ≤ 16 }
@@ -58,7 +52,7 @@ fn pairs_between(old: &Tables, new: &Tables, slot: SlotNo) -> usize
 // Nothing is said where nothing is new.
 impl fmt::Display for Changes {
     fn fmt<W: fmt::Write>(&self, f: &mut fmt::Formatter<W>) -> fmt::Result {
-        if *self == Changes::NONE {
+        if *self == Changes::default() {
             return Ok(());
         }
         write!(f, "; changed objects {}, ", self.objects)?;
