@@ -26,7 +26,7 @@ pub fn stops(read: Reading) -> bool
         Ok(Record {
             fields: Fields::Event(_),
             ..
-        },)
+        })
     )
 }
 

@@ -41,7 +41,7 @@ fn is_end(read: Reading) -> bool
         Ok(Record {
             fields: Fields::Ended { .. },
             ..
-        },)
+        })
     )
 }
 
