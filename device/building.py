@@ -4,7 +4,7 @@ from dataclasses import dataclass
 from pathlib import Path
 from typing import Dict, List, Sequence, Tuple
 
-from device.kit import ROOT, WORK, command, tool
+from device.kit import ROOT, WORK, NotBuilt, command, tool
 from device.thumb.processors import CORTEX_M0_PLUS, CORTEX_M3, Processor
 
 FOLDER = Path(__file__).resolve().parent
@@ -13,6 +13,8 @@ LIBRARY = ROOT / "target" / "library"
 SMALL = ("-Os",)
 # What the kit's module says of the computer that it was made for.
 HOST_ATTRIBUTES = re.compile(r'"(target-cpu|probe-stack|stack-probe-size)"="[^"]*" ?')
+# A value that goes in registers; it is stored for pointers of 64 bits, and taken apart as the processor lays it out.
+IN_REGISTERS = re.compile(r"\{ ((?:i\d+|ptr)(?:, (?:i\d+|ptr))+) \}")
 # Each function can be left out by the linker, and the words of one kind of file are no fault for another.
 COMMON = ("-ffunction-sections", "-fdata-sections", "-Wno-override-module", "-Wno-unused-command-line-argument")
 
@@ -58,12 +60,30 @@ def place(target: Target, words: Sequence[str], name: str) -> Path:
     return folder / name
 
 
+def places_of(shape: str, pointer: int) -> List[int]:
+    """Where each part of a value begins, with pointers of so many bytes."""
+    places, end = [], 0
+    for part in shape.split(", "):
+        size = pointer if part == "ptr" else (int(part[1:]) + 7) // 8
+        places.append(-(-end // size) * size)
+        end = places[-1] + size
+    return places
+
+
+def shapes_that_move(text: str) -> List[str]:
+    """The values that go in registers and whose parts stand elsewhere with pointers of 32 bits."""
+    return sorted({shape for shape in IN_REGISTERS.findall(text) if places_of(shape, 8) != places_of(shape, 4)})
+
+
 def plain_module(module: Path) -> Path:
     """The module as text, without what it says of the computer that it was made for."""
     WORK.mkdir(parents=True, exist_ok=True)
     text, plain = WORK / f"{module.stem}.host.ll", WORK / f"{module.stem}.ll"
     command([tool("clang"), "-S", "-emit-llvm", "-Xclang", "-disable-llvm-passes", *COMMON, "-x", "ir", str(module), "-o", str(text)])
-    plain.write_text(HOST_ATTRIBUTES.sub("", text.read_text(encoding="utf-8")), encoding="utf-8")
+    made = text.read_text(encoding="utf-8")
+    for shape in shapes_that_move(made):
+        raise NotBuilt(f"{module.name} hands on a value whose parts stand elsewhere with pointers of 32 bits: {{ {shape} }}")
+    plain.write_text(HOST_ATTRIBUTES.sub("", made), encoding="utf-8")
     return plain
 
 

@@ -19,6 +19,10 @@ define i32 @gustlantern_answer(i32 %given) #0 {
 }
 attributes #0 = { nounwind "probe-stack"="inline-asm" "stack-probe-size"="3072" "target-cpu"="x86-64-v2" }
 """
+FIRST = """define {{ {shape} }} @first({{ {shape} }} %given) {{
+  ret {{ {shape} }} %given
+}}
+"""
 CALLER = """#include "host.h"
 uint32_t gustlantern_answer(uint32_t given);
 void play(void)
@@ -51,6 +55,13 @@ class Building(unittest.TestCase):
         with contextlib.redirect_stdout(written):
             self.assertEqual(run_main([str(made), "--calls"]), 0)
         self.assertRegex(written.getvalue(), r"^43gustlantern_answer: 2 instructions, 3 cycles, 0 bytes of stack\nin all: ")
+
+    def test_a_value_that_a_processor_takes_apart_otherwise_is_told(self):
+        for shape in ("ptr, i64", "i8, i8", "i32, i32", "i64, ptr"):
+            plain_module(self.file("kept.ll", FIRST.format(shape=shape)))
+        for shape in ("i8, ptr", "i1, ptr", "ptr, ptr", "ptr, i32", "i64, ptr, ptr"):
+            with self.assertRaisesRegex(NotBuilt, "^moved.ll hands on a value .*32 bits: { " + shape + " }$"):
+                plain_module(self.file("moved.ll", FIRST.format(shape=shape)))
 
     def test_what_was_written_before_a_fault_is_told(self):
         source = self.file("stops.c", '#include "host.h"\nvoid play(void) { host_write("so far\\n"); __builtin_trap(); }\n')
