@@ -40,18 +40,8 @@ impl fmt::Display for Told {
             Fields::Event(Event::Release { slot, object }) => {
                 write!(f, " {} {}", slot.0, object.0)
             }
-            Fields::Event(
-                Event::End {
-                    slot,
-                    tick,
-                    rollback: _,
-                },
-            ) => write!(f, " {} {tick}", slot.0),
-            Fields::Ended {
-                tick,
-                slot,
-                rollback: _,
-            } => write!(f, " {tick} {}", slot.0),
+            Fields::Event(Event::End { slot, tick, .. }) => write!(f, " {} {tick}", slot.0),
+            Fields::Ended { tick, slot, .. } => write!(f, " {tick} {}", slot.0),
         }
     }
 }
