@@ -8,7 +8,7 @@ use lib.Seq.{take_at, take-length, drop-drop, drop-append-add}
 use Rattle.record_layout.specs.Kinds.{shape_of}
 use Rattle.record_layout.specs.Fields.{kind_of_fields, front_of, record_of}
 use Rattle.record_layout.specs.declared.fields.Fields.{Fields}
-use Rattle.record_layout.proofs.Lengths.{length_front, row}
+use Rattle.record_layout.proofs.Lengths.{length_front}
 use Rattle.record_front.specs.Serving.Filled.{filled}
 
 -- the next bytes behind a front
@@ -43,7 +43,3 @@ front_and_list f list made b begun written at place is_made first second room =
     ∙ ap (λ (x : List ℕ). take at x ++ (list ++ drop (at + length list) x)) (fronted ∙ ap (λ (n : ℕ). front_of f (length list) ++ drop n b) there)
     ∙ put_behind (front_of f (length list)) list b at there (omega arith)
     ∙ ap (λ (n : ℕ). record_of f list ++ drop n b) (sym long)
-
--- an array of twelve bytes holds every front
-pub small_front : (f : Fields) → 4 + (shape_of (kind_of_fields f)).head ≤ 12
-small_front f = omega (arith, (row (kind_of_fields f)).short_head)
