@@ -8,21 +8,16 @@ ghost use Rattle.record_layout.specs.Fields.{fields_of};
 ghost use Rattle.record_layout.specs.Reading.{content_right, body_reading};
 ghost use Rattle.record_layout.specs.Telling.{told_by_reading};
 
-mod heads;
-
 use answers::Refusal;
-use counters::{OBJECTS, SlotNo};
-use record_bytes::end_right;
-use record_layout::fields::{Fields, Reading, Record};
+use counters::{OBJECTS, ObjectNo, SlotNo, Version};
+use record_bytes::{end_right, word};
+use record_layout::fields::{Event, Fields, Reading, Record};
 use record_layout::kind::Kind;
 
 pub fn read(kind: Kind, b: &[u8]) -> Reading
     ensures { told_by_reading result ≡ told_by_reading (body_reading base kind b.now) }
 {
-    if !length_right(kind, b) {
-        return Err(Refusal::BadRecord);
-    }
-    if !content_right(kind, b) {
+    if !length_right(kind, b) || !content_right(kind, b) {
         return Err(Refusal::BadRecord);
     }
     Ok(Record {
@@ -61,16 +56,35 @@ fn content_right(kind: Kind, b: &[u8]) -> bool
     }
 }
 
+// What the head of the kind says.
 fn fields(kind: Kind, b: &[u8]) -> Fields
     requires { (shape_of kind).head ≤ length b.now }
     ensures { result ≡ fields_of kind b.now }
 {
     match kind {
-        Kind::Fresh => heads::fresh(b),
-        Kind::Start => heads::start(b),
-        Kind::Call => heads::call(b),
-        Kind::Release => heads::release(b),
-        Kind::End { rollback } => heads::end(b, rollback),
-        Kind::Ended { rollback } => heads::ended(b, rollback),
+        Kind::Fresh => Fields::Fresh {
+            first: Version(word(b, 0)),
+        },
+        Kind::Start => Fields::Event(Event::Start { slot: SlotNo(b[0]) }),
+        Kind::Call => Fields::Event(Event::Call {
+            slot: SlotNo(b[0]),
+            object: ObjectNo(b[1]),
+            kind: b[2],
+            argument: word(b, 4),
+        }),
+        Kind::Release => Fields::Event(Event::Release {
+            slot: SlotNo(b[0]),
+            object: ObjectNo(b[1]),
+        }),
+        Kind::End { rollback } => Fields::Event(Event::End {
+            slot: SlotNo(b[0]),
+            tick: word(b, 1),
+            rollback,
+        }),
+        Kind::Ended { rollback } => Fields::Ended {
+            tick: word(b, 0),
+            slot: SlotNo(b[4]),
+            rollback,
+        },
     }
 }
