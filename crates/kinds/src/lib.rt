@@ -20,22 +20,16 @@ pub fn act(kind: u8, word: u32, argument: u32) -> Acted
             answer: 0,
         },
         2 => {
-            let sum = std::num::wrapping_add_u32(word, argument);
+            let sum = word.wrapping_add(argument);
             Acted {
                 word: sum,
                 answer: sum,
             }
         }
-        3 => {
-            if argument <= word {
-                Acted {
-                    word: word - argument,
-                    answer: 1,
-                }
-            } else {
-                Acted { word, answer: 0 }
-            }
-        }
+        3 if argument <= word => Acted {
+            word: word - argument,
+            answer: 1,
+        },
         _ => Acted { word, answer: 0 },
     }
 }
