@@ -1,19 +1,12 @@
 // What ends the program before its input does.
-use std::fmt;
-use std::io::Error;
+use std::io;
+use thiserror::Error;
 
 // Which call of the system has failed, and why.
-#[derive(Clone, Copy)]
+#[derive(Debug, Drop, Error)]
 pub enum Failure {
-    Input(Error),
-    Output(Error),
-}
-
-impl fmt::Display for Failure {
-    fn fmt<W: fmt::Write>(&self, f: &mut fmt::Formatter<W>) -> fmt::Result {
-        match self {
-            Failure::Input(error) => write!(f, "input: {error}"),
-            Failure::Output(error) => write!(f, "output: {error}"),
-        }
-    }
+    #[error("input: {0}")]
+    Input(io::Error),
+    #[error("output: {0}")]
+    Output(io::Error),
 }

@@ -27,13 +27,10 @@ pub fn put(event: u64, answer: Answer, buf: &mut [u8], at: usize) -> usize
 fn place(text: &[u8], buf: &mut [u8], at: usize) -> usize
     ensures { lent result buf.new ≡ put_at text.now buf.old at }
 {
-    if buf.len() < at {
+    let end = at.saturating_add(text.len());
+    if buf.len() < end {
         return 0;
     }
-    if buf.len() - at < text.len() {
-        return 0;
-    }
-    let end = at + text.len();
     buf[at..end].copy_from_slice(text);
     text.len()
 }
