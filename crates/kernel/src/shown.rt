@@ -12,7 +12,6 @@ ghost use Rattle.kernel.specs.Shown.{Look, looked, object_words, pair_words, loo
 use crate::tell;
 use answers::{Answer, Refusal};
 use counters::{Comparison, OBJECTS, ObjectNo, SLOTS, SlotNo};
-use objects::{Object, Pair};
 use pump::looks;
 use record_order::CameFirst;
 
@@ -50,19 +49,9 @@ pub extern "C" fn gustlantern_raw_object(words: &[u32; 864], object: u8, seen: &
     if OBJECTS <= object {
         return Refusal::BadObject.into();
     }
-    *seen = object_words(looks::object(words, ObjectNo(object)));
+    let found = looks::object(words, ObjectNo(object));
+    *seen = [found.word, found.global.0, found.local.0, found.terminal.0];
     0
-}
-
-fn object_words(object: Object) -> [u32; 4]
-    ensures { result ≡ object_words object }
-{
-    [
-        object.word,
-        object.global.0,
-        object.local.0,
-        object.terminal.0,
-    ]
 }
 
 // R4: what is kept of a slot and an object, behind the slot's live mark.
@@ -85,14 +74,7 @@ pub extern "C" fn gustlantern_raw_pair(
     }
     let live = looks::live(marks, SlotNo(slot));
     let pair = looks::pair(words, bytes, marks, SlotNo(slot), ObjectNo(object));
-    *seen = pair_words(live, pair);
-    0
-}
-
-fn pair_words(live: bool, pair: Pair) -> [u32; 8]
-    ensures { result ≡ pair_words live pair }
-{
-    [
+    *seen = [
         u32::from(live),
         u32::from(pair.declared),
         u32::from(pair.supremum),
@@ -101,7 +83,8 @@ fn pair_words(live: bool, pair: Pair) -> [u32; 8]
         u32::from(pair.called),
         u32::from(pair.spoiled),
         pair.saved,
-    ]
+    ];
+    0
 }
 
 // Whether each mark is 0 or 1, as every other function needs it of its caller's memory.
