@@ -1,5 +1,5 @@
 -- R39 to R43, record by record: what the first record gives, and what each further one gives.
-use Rattle.record_layout.specs.Reading.{read_as, reading, listing, Reading}
+use Rattle.record_layout.specs.Reading.{reading, listing, Reading}
 use Rattle.std.specs.Prelude.{ℕ, zero, suc, Bool, true, false, not, List, [], ◌∷◌, length, drop, replicate, ltb, Err, Ok, is_some}
 use Rattle.answers.specs.Numbers.{reply_of, accepted, refused}
 use Rattle.answers.specs.declared.Reply.{Reply}

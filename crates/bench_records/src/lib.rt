@@ -32,14 +32,15 @@ pub fn first(
 ) -> Answered
     ensures { answered (accepted 0) (held words.new counts.new marks.new) result ≡ first_step base bytes.now }
 {
-    let record = match record_read::read(bytes) {
+    let read = record_read::read(bytes);
+    let record = match read {
         Ok(record) => record,
         Err(refusal) => return not_fresh(words, counts, marks, refusal),
     };
     let Fields::Fresh { first } = record.fields else {
         return not_fresh(words, counts, marks, Refusal::BadRecord);
     };
-    let list = &bytes[record.list..record.taken];
+    let list = record_read::list_of(read, bytes);
     fresh(words, counts, marks, first, list, record.taken)
 }
 

@@ -11,10 +11,7 @@ use std::array;
 pub fn taken(read: Reading) -> usize
     ensures { result ≡ taken_by read }
 {
-    match read {
-        Ok(record) => record.taken,
-        Err(_) => 0,
-    }
+    read.map_or(0, |record| record.taken)
 }
 
 // Behind the first record all but an event stops the program.

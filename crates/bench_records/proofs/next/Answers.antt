@@ -4,14 +4,12 @@ use Rattle.std.proofs.Common.{◌≡◌, ℕ, Bool, true, false, ltb, Option, is
 use Rattle.std.specs.Bool.{then_some}
 use Rattle.std.specs.Option.{unwrap_or, option_map}
 use Rattle.answers.specs.Numbers.{reply_of, refused, Answer}
-use Rattle.answers.specs.declared.Reply.{Reply}
 use Rattle.answers.specs.declared.Refusal.TheVariants.{BadRecord}
 use Rattle.counters.specs.Sizes.{base}
 use Rattle.pump.specs.Held.{held}
 use Rattle.record_layout.proofs.Telling.{reading_tells}
 use Rattle.record_layout.specs.Reading.{list_in, Reading, reading, listing}
 use Rattle.rules.specs.Steps.{read_step, Outcome}
-use Rattle.rules.specs.Tables.{State}
 use Rattle.bench_records.specs.Records.{end_buffer, stops_at, taken_by}
 use Rattle.bench_records.proofs.next.Goals as goal
 
