@@ -1,5 +1,5 @@
 -- The bench's own path: from the fresh record that its input begins with, the events that it hands on, turn by turn, and what it leaves.
-use Rattle.record_layout.specs.Reading.{read_as, reading, listing, Reading}
+use Rattle.record_layout.specs.Reading.{read_as, reading, listing}
 use Rattle.std.specs.Prelude.{ℕ, zero, suc, ◌+◌, ◌%◌, Bool, not, ◌&&◌, List, [], ◌∷◌, ◌++◌, map, ◌≡◌, ltb, length, drop}
 use Rattle.answers.specs.declared.Reply.{Reply}
 use Rattle.answers.specs.Order.{pick}
