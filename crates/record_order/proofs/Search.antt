@@ -1,6 +1,6 @@
 -- What the walk of one list inside a walk of the other finds.
 use Rattle.counters.specs.declared.Comparison.{Comparison}
-use Rattle.std.specs.Prelude.{None, Ok, Option, Some}
+use Rattle.std.specs.Prelude.{None, Option, Some}
 use Prim.Native.Nat.{ℕ, ◌+◌, ◌≤◌}
 use mathlib.Core.Bool.{Bool, true, false}
 use mathlib.Core.List.{List, [], ◌∷◌}

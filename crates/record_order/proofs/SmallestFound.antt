@@ -1,5 +1,5 @@
 -- The answer of two lists is that of the smallest object that both list, and of nothing else.
-use Rattle.std.specs.Prelude.{None, Ok, Err, Some, option_map}
+use Rattle.std.specs.Prelude.{None, Some, option_map}
 use Prim.Native.Nat.{ℕ, ◌+◌, ◌%◌, ◌≤◌, ◌<◌}
 use mathlib.Core.List.{List}
 use mathlib.Core.Logic.{⊎_elim}

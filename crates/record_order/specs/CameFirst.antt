@@ -1,6 +1,6 @@
 -- Which of two end records, A and B, came first.
 use Rattle.answers.specs.declared.Refusal.{Refusal}
-use Rattle.record_layout.specs.Reading.{read_as, reading, listing, Reading}
+use Rattle.record_layout.specs.Reading.{reading, listing, Reading}
 use Rattle.std.specs.Prelude.{ℕ, Bool, true, false, not, List, [], ◌∷◌, eqb, None, Ok, Err, Option, Some, Result, option_map}
 use Rattle.answers.specs.Numbers.{accepted, refused}
 use Rattle.answers.specs.declared.Reply.{Reply}

@@ -1,9 +1,11 @@
 // R34 to R36: which of two end records came first.
 #![tactic(auto)]
 
-ghost use Rattle.std.specs.Prelude.{◌≡◌};
+ghost use Rattle.std.specs.Prelude.{◌≡◌, true, false, MatchResult};
+ghost use Rattle.answers.specs.declared.Refusal.TheVariants.{BadRecord};
 ghost use Rattle.counters.specs.Sizes.{base};
 ghost use Rattle.record_layout.specs.Entries.{entries_of};
+ghost use Rattle.record_layout.specs.Reading.{reading, listing};
 ghost use Rattle.record_order.specs.CameFirst.{meeting_of, is_end, came_first, order_of};
 
 use answers::Refusal;
@@ -18,18 +20,18 @@ pub type CameFirst = Result<Option<Comparison>, Refusal>;
 pub fn came_first(a: &[u8], b: &[u8]) -> CameFirst
     ensures { order_of result ≡ order_of (came_first base a.now b.now) }
 {
-    let read_a = record_read::read(a);
-    if !is_end(read_a) {
+    Ok(meeting(end_list(a)?, end_list(b)?))
+}
+
+// R34: the entries of the end record that the bytes have to begin with.
+fn end_list(s: &[u8]) -> Result<&[u8], Refusal>
+    ensures { MatchResult result (λ list. (is_end (reading base s.now) ≡ true) × (list.now ≡ listing base s.now)) (λ refusal. (is_end (reading base s.now) ≡ false) × (refusal ≡ BadRecord)) }
+{
+    let read = record_read::read(s);
+    if !is_end(read) {
         return Err(Refusal::BadRecord);
     }
-    let read_b = record_read::read(b);
-    if !is_end(read_b) {
-        return Err(Refusal::BadRecord);
-    }
-    Ok(meeting(
-        record_read::list_of(read_a, a),
-        record_read::list_of(read_b, b),
-    ))
+    Ok(record_read::list_of(read, s))
 }
 
 // R34: whether the record is what an end has written.
