@@ -38,13 +38,7 @@ pub fn verdict(size: Size, slot: SlotNo, live: bool, list: &[u8]) -> Verdict
     if live {
         return Err(Refusal::Busy);
     }
-    if list.len() == 0 {
-        return Err(Refusal::BadList);
-    }
-    if list.len() % 2 == 1 {
-        return Err(Refusal::BadList);
-    }
-    if 2 * (size.objects as usize) < list.len() {
+    if list.is_empty() || list.len() % 2 == 1 || 2 * (size.objects as usize) < list.len() {
         return Err(Refusal::BadList);
     }
     declarations(size, list)

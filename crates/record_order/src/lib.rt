@@ -23,7 +23,7 @@ pub fn came_first(a: &[u8], b: &[u8]) -> CameFirst
     Ok(meeting(end_list(a)?, end_list(b)?))
 }
 
-// R34: the entries of the end record that the bytes have to begin with.
+// R34: the list of an end record; bytes that read as none are refused.
 fn end_list(s: &[u8]) -> Result<&[u8], Refusal>
     ensures { MatchResult result (λ list. (is_end (reading base s.now) ≡ true) × (list.now ≡ listing base s.now)) (λ refusal. (is_end (reading base s.now) ≡ false) × (refusal ≡ BadRecord)) }
 {
