@@ -28,10 +28,7 @@ pub extern "C" fn gustlantern_raw_came_first(a: &[u8], b: &[u8], order: &mut u32
 fn as_numbers(found: CameFirst) -> Answer
     ensures { reply_of result ≡ order_of found }
 {
-    Ok(match found? {
-        Some(comparison) => code(comparison),
-        None => 5,
-    })
+    Ok(found?.map_or(5, code))
 }
 
 // R38: the number of a comparison.
