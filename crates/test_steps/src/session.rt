@@ -52,12 +52,12 @@ impl Session {
                 Ok(Told::Nothing)
             }
             Asked::ShowObject => {
-                let number = given::object_at(&numbers, 0);
+                let number = given::object_of(&numbers, 0);
                 Ok(Told::Object(object_in(&self.tables, number)))
             }
             Asked::ShowPair => {
-                let slot = given::slot_at(&numbers);
-                let number = given::object_at(&numbers, 1);
+                let slot = given::slot_of(&numbers);
+                let number = given::object_of(&numbers, 1);
                 Ok(Told::Pair(pair_in(&self.tables, slot, number)))
             }
             Asked::Edit(edit) => {

@@ -7,7 +7,7 @@ use std::fmt;
 // The longest record that is read; what goes on behind it is left out.
 const LIMIT: usize = 600;
 
-pub fn decode(alloc: Global, text: &[u8]) -> Result<Vec<u8>, AllocError>
+pub fn record_of(alloc: Global, text: &[u8]) -> Result<Vec<u8>, AllocError>
     ensures { IfOk result (λ bytes. vec_len bytes ≤ 600) }
 {
     let mut record = Vec::new(alloc);
@@ -65,14 +65,14 @@ mod tests {
 
     #[test]
     fn bytes_and_zeros(rt: HostRuntime) -> Result<(), Fail> {
-        let record = decode(rt.alloc(), b" 0A+02/FF 0")?;
+        let record = record_of(rt.alloc(), b" 0A+02/FF 0")?;
         assert_eq!(rt; record.as_slice(), [10u8, 0, 0, 255].as_slice());
         Ok(())
     }
 
     #[test]
     fn no_more_than_the_limit(rt: HostRuntime) -> Result<(), Fail> {
-        let record = decode(rt.alloc(), b"+FF+FF+FF 07")?;
+        let record = record_of(rt.alloc(), b"+FF+FF+FF 07")?;
         assert_eq!(rt; record.len(), LIMIT);
         Ok(())
     }

@@ -5,7 +5,7 @@ use crate::reading::read;
 use crate::writing::write;
 use std::alloc::Global;
 use std::io::{self, BufRead, Read, Write};
-use test_text::hexadecimal::decode;
+use test_text::hexadecimal::record_of;
 use test_text::scan::{after, before};
 
 // A page has at most so many bytes and so many lines.
@@ -45,11 +45,11 @@ pub fn play(alloc: Global, page: impl BufRead + Drop, out: &mut impl Write) -> i
 
 fn answer(alloc: Global, asked: Asked, text: &[u8], out: &mut impl Write) -> io::Result<()> {
     match asked {
-        Asked::Read => read(&decode(alloc, text)?, out),
-        Asked::Write => write(alloc, &decode(alloc, text)?, out),
+        Asked::Read => read(&record_of(alloc, text)?, out),
+        Asked::Write => write(alloc, &record_of(alloc, text)?, out),
         Asked::Order => {
-            let a = decode(alloc, before(text, b'/'))?;
-            let b = decode(alloc, after(text, b'/'))?;
+            let a = record_of(alloc, before(text, b'/'))?;
+            let b = record_of(alloc, after(text, b'/'))?;
             order(&a, &b, out)
         }
     }
