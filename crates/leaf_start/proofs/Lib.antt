@@ -1,1 +1,1 @@
-pub mod StartLoops
+pub mod Started

@@ -1,6 +1,6 @@
 -- `step_start::start` meets its promise.
 use Rattle.std.proofs.lemmas.Result.{err_from_is_err_and}
-use Rattle.leaf_start.proofs.StartLoops.{Judged, start_refused, list_within, start_passed}
+use Rattle.leaf_start.proofs.Started.{Judged, start_refused, list_within, start_passed}
 use Rattle.tables.specs.Views.{view}
 use Rattle.step_start.proofs.start.Goals as goal
 
