@@ -2,19 +2,16 @@
 ghost use Rattle.std.specs.Prelude.{◌+◌, ◌≤◌, ◌<◌, ◌++◌, ◌≡◌, length, drop, take};
 ghost use Rattle.record_layout.specs.Fields.{record_of};
 ghost use Rattle.rules.specs.Effects.{entry_of, end_entries, end_fields};
-ghost use Rattle.tables.specs.Places.{Fits};
-ghost use Rattle.tables.specs.Views.{view};
+ghost use Rattle.tables.specs.Serving.Memories.{tables_of};
 
-use counters::{Size, SlotNo};
+use counters::SlotNo;
 use objects::Pair;
 use record_layout::fields::Fields;
+use tables::memory::Memory;
 
 // The front, and the entries of the slot's declared objects behind it.
 pub fn record(
-    words: &[u32],
-    bytes: &[u8],
-    marks: &[bool],
-    size: Size,
+    memory: &Memory,
     s: u32,
     rollback: bool,
     tick: u32,
@@ -22,9 +19,9 @@ pub fn record(
     list: u16,
     buf: &mut [u8],
 )
-    requires fits { Fits size words.now bytes.now marks.now × (s < size.slots) }
-    requires list_value { (list ≡ length (end_entries size s (view size words.now bytes.now marks.now))) × (list ≤ 510) × (10 + list ≤ length buf.old) }
-    ensures { buf.new ≡ record_of (end_fields rollback tick slot.0) (end_entries size s (view size words.now bytes.now marks.now)) ++ drop (10 + list) buf.old }
+    requires slot { s < memory.now.size.slots }
+    requires list_value { (list ≡ length (end_entries memory.now.size s (tables_of memory.now))) × (list ≤ 510) × (10 + list ≤ length buf.old) }
+    ensures { buf.new ≡ record_of (end_fields rollback tick slot.0) (end_entries memory.now.size s (tables_of memory.now)) ++ drop (10 + list) buf.old }
 {
     let front = record_front::front(
         Fields::Ended {
@@ -35,17 +32,17 @@ pub fn record(
         list,
     );
     buf[..10].copy_from_slice(&front[..10]);
-    entries(words, bytes, marks, size, s, &mut buf[10..]);
+    entries(memory, s, &mut buf[10..]);
 }
 
-fn entries(words: &[u32], bytes: &[u8], marks: &[bool], size: Size, s: u32, buf: &mut [u8])
-    requires fits { Fits size words.now bytes.now marks.now × (s < size.slots) }
-    requires marks_in_bounds { length (end_entries size s (view size words.now bytes.now marks.now)) ≤ length buf.old }
-    ensures { buf.new ≡ end_entries size s (view size words.now bytes.now marks.now) ++ drop (length (end_entries size s (view size words.now bytes.now marks.now))) buf.old }
+fn entries(memory: &Memory, s: u32, buf: &mut [u8])
+    requires slot { s < memory.now.size.slots }
+    requires marks_in_bounds { length (end_entries memory.now.size s (tables_of memory.now)) ≤ length buf.old }
+    ensures { buf.new ≡ end_entries memory.now.size s (tables_of memory.now) ++ drop (length (end_entries memory.now.size s (tables_of memory.now))) buf.old }
 {
     let mut at: u32 = 0;
-    for o in 0..size.objects as u32 {
-        at = entry(o, tables::pair_at(words, bytes, marks, size, s, o), at, buf);
+    for o in 0..memory.size.objects as u32 {
+        at = entry(o, memory.pair_at(s, o), at, buf);
     }
 }
 

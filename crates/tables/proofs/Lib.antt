@@ -4,4 +4,4 @@ pub mod Stored
 pub mod Viewing
 pub mod MarkWalks
 pub mod OneToOne
-pub mod Walk
+pub mod Memories

@@ -8,6 +8,7 @@ ghost use Rattle.tables.specs.Views.{objects_of, live_of, view};
 ghost use Rattle.tables.specs.Serving.Changes.{Become, WordsBecome, MarksBecome};
 
 pub mod columns;
+pub mod memory;
 pub mod places;
 
 use counters::{CallCount, Size, Version};

@@ -1,7 +1,7 @@
 use Rattle.leaf_end.specs.Serving.Ends.{end_cleared}
-use Rattle.tables.proofs.Walk.{Walk}
+use Rattle.rules.specs.Walks.{each_below}
+use Rattle.tables.specs.Serving.Memories.{Became}
 use Rattle.step_end.proofs.settle.Given as goal
 
 abbrev pub invariant-loop-o : goal.invariant-loop-o
-invariant-loop-o l =
-    Walk l.size (λ q t. end_cleared l.size l.rollback l.s q t) l.size.objects l.initial.words l.initial.bytes l.initial.marks l.o l.words l.bytes l.marks
+invariant-loop-o l = Became l.fn.memory l.memory (each_below l.o (λ q t. end_cleared l.fn.memory.size l.rollback l.s q t))

@@ -1,20 +1,17 @@
 -- `step_start::begin_slots` meets its promise.
 use Rattle.std.proofs.Common.{false}
+use Rattle.rules.specs.Effects.{clear_slot}
 use Rattle.rules.specs.Tables.{with_live}
-use Rattle.tables.specs.Views.{view}
-use Rattle.tables.proofs.Walk.{walk_first, walk_on}
+use Rattle.tables.proofs.Memories.{became_first, became_then, became_on}
+use Rattle.step_start.specs.Serving.Beginnings.{begin_slot}
 use Rattle.step_start.proofs.begin_slots.Goals as goal
 
 pub loop-s-init : goal.loop-s-init
-loop-s-init c = walk_first c.requires
+loop-s-init c = became_first (begin_slot c.args.memory.now.size) c.args.memory.now
 
 pub loop-s-preserved : goal.loop-s-preserved
 loop-s-preserved c =
-    let size = c.args.size in
     let met = c.loop-s in
-    let w = c.clear.new.words in
-    let b = c.clear.new.bytes in
-    let k = c.clear.new.marks in
-    let fits = c.clear.ensures.0 in
-    walk_on met.invariant w b c.store_live.new.marks (with_live (view size w b k) met.s false) c.loop-s-test.true
-    (fits.0, fits.1, c.store_live.ensures.0) (c.store_live.ensures.1 w b) (λ i. with_live (c.clear.ensures.1 i) met.s false)
+    became_on (begin_slot c.args.memory.now.size) met.invariant
+    (became_then (clear_slot met.memory.size met.s) (λ t. with_live t met.s false) c.clear.ensures c.store_live.ensures)
+    (λ t i. begin_slot (met.invariant.same.size i) met.s t)

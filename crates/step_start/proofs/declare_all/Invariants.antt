@@ -4,15 +4,14 @@ use Rattle.leaf_start.specs.Serving.Listed.{ListedBelow}
 use Rattle.record_bytes.specs.ListsLeft.{declarations_left}
 use Rattle.record_layout.specs.Declarations.{declarations_of}
 use Rattle.rules.specs.Effects.{declare_all}
-use Rattle.tables.specs.Places.{Fits}
-use Rattle.tables.specs.Views.{view}
+use Rattle.tables.specs.Serving.Memories.{tables_of, Same}
 use Rattle.step_start.proofs.declare_all.Given as goal
 
 abbrev pub invariant-loop-declaration : goal.invariant-loop-declaration
 invariant-loop-declaration l = record {
-  fits : Fits l.size l.words l.bytes l.marks;
-  within : ListedBelow l.size.objects (declarations_left l.declaration-iterator);
+  same : Same l.fn.memory l.memory;
+  within : ListedBelow l.fn.memory.size.objects (declarations_left l.declaration-iterator);
   declared :
-      declare_all l.size l.s (declarations_of l.list) (view l.size l.fn.words l.fn.bytes l.fn.marks)
-      ≡ declare_all l.size l.s (declarations_left l.declaration-iterator) (view l.size l.words l.bytes l.marks);
+      declare_all l.fn.memory.size l.s (declarations_of l.list) (tables_of l.fn.memory)
+      ≡ declare_all l.fn.memory.size l.s (declarations_left l.declaration-iterator) (tables_of l.memory);
 }

@@ -5,14 +5,15 @@ use Rattle.record_front.proofs.Splicing.{front_and_list}
 use Rattle.record_layout.proofs.PartFilled.{part_filled}
 use Rattle.record_layout.specs.Fields.{front_of, record_of}
 use Rattle.rules.specs.Effects.{end_entries, end_fields}
-use Rattle.tables.specs.Views.{view}
+use Rattle.tables.specs.Serving.Memories.{tables_of}
 use Rattle.step_end.proofs.Ended.{end_length, end_front}
 use Rattle.step_end.proofs.writing.record.Goals as goal
 
 pub returns : goal.returns
 returns c =
     let a = c.args in
-    let list : List ℕ = end_entries a.size a.s (view a.size a.words.now a.bytes.now a.marks.now) in
+    let m = a.memory.now in
+    let list : List ℕ = end_entries m.size a.s (tables_of m) in
     let f = end_fields a.rollback a.tick a.slot.0 in
     let made : List ℕ = c.front-front.result in
     let head : List ℕ = c.copy_from_slice.new.self in
