@@ -1,5 +1,5 @@
 -- A chain of the machine's steps from its own fresh gives the rules' run, so what holds after every run holds of what the code returns.
-use Rattle.record_layout.specs.Reading.{read_as, reading, listing, Reading}
+use Rattle.record_layout.specs.Reading.{reading, listing, Reading}
 use Rattle.std.specs.Prelude.{Err, Ok}
 use Prim.Native.Nat.{ℕ, ◌<◌}
 use mathlib.Core.List.{List, [], ◌∷◌, map}

@@ -1,5 +1,5 @@
 -- A chain of the machine's steps over what is handed in, from its own fresh: each step goes in with the tables that the one before returned.
-use Rattle.record_layout.specs.Reading.{read_as, reading, listing, Reading}
+use Rattle.record_layout.specs.Reading.{reading, listing, Reading}
 use Rattle.std.specs.Prelude.{ℕ, List, [], ◌∷◌, map, Err, Ok}
 use Rattle.answers.specs.Numbers.{reply_of}
 use Rattle.counters.specs.Sizes.{Size, base}

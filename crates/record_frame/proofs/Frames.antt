@@ -1,7 +1,7 @@
 -- What a framing tells of the body, its place and the reading.
 use Rattle.record_layout.specs.declared.fields.Frame.{Frame}
 use Rattle.record_layout.proofs.Telling.{within_ok}
-use Rattle.record_layout.specs.Reading.{framed_as, length_field, kind_field, frame_rules, framing, body, body_place, reading, reading_of, Framing, Reading}
+use Rattle.record_layout.specs.Reading.{framed_as, length_field, kind_field, frame_rules, framing, body, body_place, reading, reading_of}
 use Rattle.std.specs.Prelude.{Err, Ok}
 use Prim.Native.Nat.{ℕ, ◌+◌, ◌≤◌}
 use mathlib.Core.List.{List, []}

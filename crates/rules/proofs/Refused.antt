@@ -1,5 +1,5 @@
 -- R11: a refusal has value 0, and leaves the tables and the buffer as they came.
-use Rattle.record_layout.specs.Reading.{read_as, reading, listing, Reading}
+use Rattle.record_layout.specs.Reading.{reading, listing, Reading}
 use Rattle.std.specs.Prelude.{Err, Ok}
 use Prim.Native.Nat.{ℕ}
 use mathlib.Core.Bool.{Bool}

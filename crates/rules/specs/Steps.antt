@@ -1,5 +1,5 @@
 -- R11: the five steps. The first rule that holds refuses, with the tables and the buffer as they came; else the event has its effect.
-use Rattle.record_layout.specs.Reading.{read_as, reading, listing, Reading}
+use Rattle.record_layout.specs.Reading.{reading, listing, Reading}
 use Rattle.std.specs.Prelude.{ℕ, Bool, List, ◌++◌, length, drop, ltb, Err, Ok}
 use Rattle.answers.specs.Numbers.{accepted, refused}
 use Rattle.answers.specs.declared.Reply.{Reply}

@@ -1,5 +1,5 @@
 -- The record that an end writes: its length, its bytes, and that it reads back.
-use Rattle.record_layout.specs.Reading.{read_as, Reading}
+use Rattle.record_layout.specs.Reading.{read_as}
 use Prim.Native.Nat.{ℕ, ◌+◌, ◌*◌, ◌/◌, ◌%◌, ◌<◌, ◌≤◌}
 use mathlib.Core.Bool.{Bool, true, ◌&&◌}
 use mathlib.Core.List.{List, [], ◌∷◌, ◌++◌, append-nil}

@@ -1,5 +1,5 @@
 -- What else holds after every run from fresh, with a first version.
-use Rattle.record_layout.specs.Reading.{read_as, reading, listing, Reading}
+use Rattle.record_layout.specs.Reading.{read_as, reading, listing}
 use Rattle.std.specs.Prelude.{ℕ, zero, suc, ◌+◌, ◌*◌, ◌%◌, ◌<◌, ◌≤◌, Bool, true, false, ◌&&◌, List, [], ◌∷◌, ◌++◌, map, ◌≡◌, length, Some, Ok}
 use Rattle.answers.specs.Numbers.{number_of}
 use Rattle.answers.specs.Order.{pick}
