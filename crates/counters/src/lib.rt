@@ -41,7 +41,7 @@ pub enum Turn {
 }
 
 // R36: which of two versions of one object came first; neither did where they are equal or half the turnover apart. R38: the numbers.
-#[derive(Clone, Copy)]
+#[derive(Clone, Copy, Debug)]
 pub enum Comparison {
     A = 1,
     B,
@@ -79,7 +79,7 @@ impl Version {
     pub fn meets_terminal_need(self, terminal: Version) -> bool
         ensures { result ≡ terminal_need terminal.0 self.0 }
     {
-        terminal.next().0 == self.0
+        terminal.next() == self
     }
 
     // R36: self is A's version, the other is B's.

@@ -16,7 +16,7 @@ use objects::{Object, Pair};
 
 // How a slot stands before its end: whether it is doomed (R10), whether it misses its terminal need (R9), and how many
 // bytes the entries of its record have (R27).
-#[derive(Clone, Copy)]
+#[derive(Clone, Copy, Default)]
 pub struct Standing {
     pub doomed: bool,
     pub unmet: bool,
@@ -28,11 +28,7 @@ impl Standing {
     pub fn of_none() -> Standing
         ensures { result ≡ standing_of_none }
     {
-        Standing {
-            doomed: false,
-            unmet: false,
-            bytes: 0,
-        }
+        Standing::default()
     }
 
     // With one object more; a u16 holds the bytes of as many entries as a pump can have objects.
@@ -82,10 +78,7 @@ pub fn verdict(
     if !live {
         return Err(Refusal::Idle);
     }
-    if rollback {
-        return last(standing.unmet, short);
-    }
-    if standing.doomed {
+    if !rollback && standing.doomed {
         return Err(Refusal::Doomed);
     }
     last(standing.unmet, short)

@@ -89,10 +89,3 @@ module _ (z : Size) (t : State) (s n at : ℕ) (l₀ l : List ℕ) (more : n < z
             ∙ put_behind (entries_to z t s n) entry l₀ at (sym entering.at_is) enters_inside
             ∙ (λ i. sym (join_next (λ o. entry_of o (pair_at z t s o)) n) i ++ drop (sym there i) l₀);
       }
-
-pub entered_all : (z : Size) (t : State) (s n at : ℕ) (l₀ l : List ℕ) → z.objects ≤ n → Entering z t s n at l₀ l
-    → l ≡ entries_to z t s z.objects ++ drop (length (entries_to z t s z.objects)) l₀
-entered_all z t s n at l₀ l all entering =
-    let every : n ≡ z.objects = omega (arith, entering.reached) in
-    entering.entered ∙ ap (λ (k : ℕ). entries_to z t s n ++ drop k l₀) entering.at_is
-    ∙ ap (λ (m : ℕ). entries_to z t s m ++ drop (length (entries_to z t s m)) l₀) every

@@ -1,4 +1,3 @@
-pub mod Products
 pub mod Tabulated
 pub mod Stored
 pub mod Viewing

@@ -98,6 +98,7 @@ impl<'a> Memory<'a> {
         columns::spoil_callers(self.marks, self.size, o, asked);
     }
 
+    #[inline(always)]
     pub fn clear(&mut self, s: u32)
         requires { s < self.old.size.slots }
         ensures { Became self.old self.new (clear_slot self.old.size s) }

@@ -1,5 +1,5 @@
 // The decimal numbers among the words of a line, up to a remark behind '#'.
-ghost use Rattle.std.specs.Prelude.{◌≤◌};
+ghost use Rattle.std.specs.Prelude.{◌≤◌, IfOk, vec_len};
 
 use crate::scan::before;
 use std::alloc::{AllocError, Global};
@@ -51,7 +51,9 @@ impl<'a> Numbers<'a> {
     }
 
     // All numbers but the first, as bytes.
-    pub fn rest(&self, alloc: Global) -> Result<Vec<u8>, AllocError> {
+    pub fn rest(&self, alloc: Global) -> Result<Vec<u8>, AllocError>
+        ensures { IfOk result (λ bytes. vec_len bytes ≤ 135) }
+    {
         (1..self.count())
             .map(|place| self.byte(place))
             .collect(alloc)

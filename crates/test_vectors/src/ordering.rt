@@ -1,20 +1,10 @@
 // Which of two records came first.
-use counters::Comparison;
 use std::io::{self, Write};
 
 pub fn order(a: &[u8], b: &[u8], out: &mut impl Write) -> io::Result<()> {
     match record_order::came_first(a, b) {
-        Ok(Some(comparison)) => write!(out, ": {}", name(comparison)),
+        Ok(Some(comparison)) => write!(out, ": {comparison:?}"),
         Ok(None) => write!(out, ": Unrelated"),
         Err(refusal) => write!(out, ": {}", u32::from(refusal)),
-    }
-}
-
-fn name(comparison: Comparison) -> &'static str {
-    match comparison {
-        Comparison::A => "A",
-        Comparison::B => "B",
-        Comparison::Same => "Same",
-        Comparison::Far => "Far",
     }
 }
