@@ -64,7 +64,9 @@ pub fn step_read(
 ) -> Answer
     ensures { left_with words.new bytes.new marks.new result buf.new ≡ read_step base (held words.old bytes.old marks.old) read list.now buf.old }
 {
-    let record = read?;
+    let Ok(record) = read else {
+        return read.and(Ok(0));
+    };
     step(words, bytes, marks, record.fields, list, buf)
 }
 

@@ -51,12 +51,14 @@ fn is_end(read: Reading) -> bool
 fn meeting(a: &[u8], b: &[u8]) -> Option<Comparison>
     ensures { result ≡ meeting_of (entries_of a.now) (entries_of b.now) }
 {
-    for of_a in Entries(a) {
+    let mut found = None;
+    'outer: for of_a in Entries(a) {
         for of_b in Entries(b) {
             if of_a.object == of_b.object {
-                return Some(of_a.version.compare(of_b.version));
+                found = Some(of_a.version.compare(of_b.version));
+                break 'outer;
             }
         }
     }
-    None
+    found
 }
