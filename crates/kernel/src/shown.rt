@@ -89,10 +89,9 @@ pub extern "C" fn gustlantern_raw_pair(
 pub extern "C" fn gustlantern_raw_marks_hold(marks: &[u8; 1168]) -> u32
     ensures { result ≡ marks_hold marks.now }
 {
+    let mut exceeds = false;
     for mark in marks {
-        if 1 < *mark {
-            return 0;
-        }
+        exceeds |= 1 < *mark;
     }
-    1
+    u32::from(!exceeds)
 }
