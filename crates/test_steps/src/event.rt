@@ -13,7 +13,7 @@ pub fn kind(number: u32) -> Kind {
 }
 
 // The fields of a kind, in the order in which they stand.
-pub fn fields(kind: Kind, given: &Numbers<'_>) -> Fields {
+pub fn fields(kind: Kind, given: &Numbers) -> Fields {
     let slot = SlotNo(given.byte(0));
     let object = ObjectNo(given.byte(1));
     match kind {

@@ -9,32 +9,28 @@ mod session;
 mod told;
 
 use session::Session;
-use std::alloc::Global;
-use std::io::{self, BufRead, BufReader, BufWriter, Read, Write};
+use std::fmt::{Result, Write};
+use test_text::output::Output;
 
-// The longest session that is played; what goes on behind it is left out.
-const LIMIT: u64 = 65536;
-
-// Each line is written, and behind it what came of it.
-fn play(alloc: Global, input: impl BufRead + Drop, out: &mut impl Write) -> io::Result<()> {
+// Each line is written, and behind it what came of it; it is out before it is played, since a long one may be cut off.
+fn play(text: &[u8], out: &mut Output) -> Result {
+    if text.is_empty() {
+        return Ok(());
+    }
     let mut session = Session::new();
-    for line in input.take(LIMIT).split(alloc, b'\n') {
-        let line = line?;
-        let told = session.turn(alloc, &line)?;
-        out.write_all(&line)?;
+    let lines = text.strip_suffix(b"\n").unwrap_or(text);
+    for line in lines.split(|byte| *byte == b'\n') {
+        out.put(line)?;
+        out.flush()?;
+        let told = session.turn(line);
         writeln!(out, "{told}")?;
     }
     out.flush()
 }
 
-// What can't be read or written ends the session there, with status 0: whoever compares what is printed sees that it is not all.
-fn main(rt: HostRuntime) {
-    let _ = run(&rt);
-}
-
-fn run(rt: &HostRuntime) -> io::Result<()> {
-    let alloc = rt.alloc();
-    let input = BufReader::new(alloc, rt.stdin())?;
-    let mut out = BufWriter::new(alloc, io::writer(rt))?;
-    play(alloc, input, &mut out)
+// What can't be written ends the session there, with status 0: whoever compares what is printed sees that it is not all.
+fn main() {
+    let mut text = io::large_buffer();
+    let length = io::read_full(0, &mut text);
+    let _ = play(&text[..length], &mut Output::new());
 }

@@ -1,11 +1,11 @@
 // A session: its lines are played on tables, and tables can be kept to go back to.
 use crate::asked::{Asked, Edit};
 use crate::event::{fields, kind};
-use crate::told::{FILLING, Told};
+use crate::told::{FILLING, ROOM, Told};
+use arrayvec::ArrayVec;
 use counters::Version;
 use machine::{Stepped, Tables};
 use record_layout::kind::Kind;
-use std::alloc::{AllocError, Global};
 use test_tables::changes::Changes;
 use test_tables::given;
 use test_tables::looks::{object_in, pair_in};
@@ -32,42 +32,42 @@ impl Session {
     }
 
     // The room of an end stands behind its tick, and that of a record first; an event by the number of its kind has 16 bytes.
-    pub fn turn(&mut self, alloc: Global, line: &[u8]) -> Result<Told, AllocError> {
+    pub fn turn(&mut self, line: &[u8]) -> Told {
         let Some(asked) = Asked::of(line) else {
-            return Ok(Told::Nothing);
+            return Told::Nothing;
         };
-        let numbers = Numbers::of(alloc, line)?;
+        let numbers = Numbers::of(line);
         match asked {
-            Asked::Event(kind) => self.event(alloc, kind, &numbers, numbers.at(2)),
-            Asked::Record => self.step(alloc, &numbers, numbers.at(0), events::step_record),
+            Asked::Event(kind) => self.event(kind, &numbers, numbers.at(2)),
+            Asked::Record => self.step(&numbers, numbers.at(0), events::step_record),
             Asked::Step => {
-                let given = Numbers::of(alloc, after(line, b':'))?;
+                let given = Numbers::of(after(line, b':'));
                 match numbers.at(0) {
-                    RECORD => self.step(alloc, &given, 16, events::step_record),
-                    number => self.event(alloc, kind(number), &given, 16),
+                    RECORD => self.step(&given, 16, events::step_record),
+                    number => self.event(kind(number), &given, 16),
                 }
             }
             Asked::Calls => {
-                self.calls(numbers.at(0), &Numbers::of(alloc, after(line, b':'))?);
-                Ok(Told::Nothing)
+                self.calls(numbers.at(0), &Numbers::of(after(line, b':')));
+                Told::Nothing
             }
             Asked::ShowObject => {
                 let number = given::object_of(&numbers, 0);
-                Ok(Told::Object(object_in(&self.tables, number)))
+                Told::Object(object_in(&self.tables, number))
             }
             Asked::ShowPair => {
                 let slot = given::slot_of(&numbers);
                 let number = given::object_of(&numbers, 1);
-                Ok(Told::Pair(pair_in(&self.tables, slot, number)))
+                Told::Pair(pair_in(&self.tables, slot, number))
             }
             Asked::Edit(edit) => {
                 self.edit(edit, &numbers);
-                Ok(Told::Nothing)
+                Told::Nothing
             }
         }
     }
 
-    fn edit(&mut self, edit: Edit, numbers: &Numbers<'_>) {
+    fn edit(&mut self, edit: Edit, numbers: &Numbers) {
         match edit {
             Edit::Fresh => self.tables = given::fresh(numbers),
             Edit::Live => given::live(numbers, &mut self.tables),
@@ -79,15 +79,9 @@ impl Session {
     }
 
     // An event by its fields.
-    fn event(
-        &mut self,
-        alloc: Global,
-        kind: Kind,
-        given: &Numbers<'_>,
-        room: u32,
-    ) -> Result<Told, AllocError> {
+    fn event(&mut self, kind: Kind, given: &Numbers, room: u32) -> Told {
         let fields = fields(kind, given);
-        self.step(alloc, given, room, |tables, list, lent| {
+        self.step(given, room, |tables, list, lent| {
             events::step(tables, fields, list, lent)
         })
     }
@@ -95,27 +89,27 @@ impl Session {
     // A start's list and a record's bytes stand behind the first number. The buffer that is lent has at most 136 bytes.
     fn step<F: FnOnce(Tables, &[u8], &mut [u8]) -> Stepped>(
         &mut self,
-        alloc: Global,
-        given: &Numbers<'_>,
+        given: &Numbers,
         room: u32,
         step: F,
-    ) -> Result<Told, AllocError>
+    ) -> Told
         requires { F.IsAlwaysCallable step }
     {
-        let list = given.rest(alloc)?;
-        let mut lent = vec![in alloc; FILLING; (room % 137) as usize]?;
+        let list = given.rest();
+        let mut lent = ArrayVec::from([FILLING; ROOM]);
+        lent.truncate(room as usize % (ROOM + 1));
         let before = self.tables;
-        let stepped = step(before, &list, &mut lent);
+        let stepped = step(before, list.as_slice(), lent.as_mut_slice());
         self.tables = stepped.tables;
-        Ok(Told::Event {
+        Told::Event {
             answer: stepped.answer,
             lent,
             changes: Changes::between(&before, &self.tables),
-        })
+        }
     }
 
     // `make 254 calls: slot 0, object 3, add (2) 1`, of which nothing is told.
-    fn calls(&mut self, count: u32, given: &Numbers<'_>) {
+    fn calls(&mut self, count: u32, given: &Numbers) {
         let call = fields(Kind::Call, given);
         for _ in 0..count {
             let stepped = events::step(self.tables, call, b"", &mut []);

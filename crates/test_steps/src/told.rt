@@ -1,5 +1,6 @@
 // What came of a line.
 use answers::{Answer, Reply};
+use arrayvec::ArrayVec;
 use objects::{Object, Pair};
 use std::fmt;
 use test_tables::changes::Changes;
@@ -9,6 +10,9 @@ use test_text::hexadecimal::Bytes;
 // What fills a buffer that is lent.
 pub const FILLING: u8 = 0xEE;
 
+// The most bytes that are lent.
+pub const ROOM: usize = 136;
+
 #[derive(Drop)]
 pub enum Told {
     Nothing,
@@ -16,7 +20,7 @@ pub enum Told {
     Pair(Pair),
     Event {
         answer: Answer,
-        lent: Vec<u8>,
+        lent: ArrayVec<u8, ROOM>,
         changes: Changes,
     },
 }
@@ -34,6 +38,7 @@ impl fmt::Display for Told {
             } => {
                 let reply = Reply::from(*answer);
                 write!(f, ": {} {}", reply.number, reply.value)?;
+                let lent = lent.as_slice();
                 if lent.iter().any(|byte| *byte != FILLING) {
                     write!(f, ";{}", Bytes(lent))?;
                 }

@@ -10,7 +10,7 @@ use std::array;
 use test_text::numbers::Numbers;
 
 // `fresh 4294967295`, where word o is 100 + o, or `fresh 4294967295, words 0, but word 3 is 100`.
-pub fn fresh(given: &Numbers<'_>) -> Tables {
+pub fn fresh(given: &Numbers) -> Tables {
     let first = Version(given.at(0));
     if given.count() < 2 {
         return events::fresh(first, array::from_fn(|object| 100 + object as u32));
@@ -21,13 +21,13 @@ pub fn fresh(given: &Numbers<'_>) -> Tables {
 }
 
 // `set live 2`
-pub fn live(given: &Numbers<'_>, tables: &mut Tables) {
+pub fn live(given: &Numbers, tables: &mut Tables) {
     let slot = slot_of(given);
     tables::store_live(&mut tables.marks, PUMP, u32::from(slot.0), true);
 }
 
 // `set object 3: word 103, global 0, local 0, terminal 0`
-pub fn object(given: &Numbers<'_>, tables: &mut Tables) {
+pub fn object(given: &Numbers, tables: &mut Tables) {
     let number = object_of(given, 0);
     let object = Object {
         word: given.at(1),
@@ -39,7 +39,7 @@ pub fn object(given: &Numbers<'_>, tables: &mut Tables) {
 }
 
 // `set pair 0 3: supremum 2, private 0, count 1, saved 103, declared 1, called 1, spoiled 0`
-pub fn pair(given: &Numbers<'_>, tables: &mut Tables) {
+pub fn pair(given: &Numbers, tables: &mut Tables) {
     let slot = slot_of(given);
     let number = object_of(given, 1);
     let pair = Pair {
@@ -63,13 +63,13 @@ pub fn pair(given: &Numbers<'_>, tables: &mut Tables) {
 }
 
 // The slot that a line names first, and the object that it names at a place.
-pub fn slot_of(given: &Numbers<'_>) -> SlotNo
+pub fn slot_of(given: &Numbers) -> SlotNo
     ensures { result.0 < 16 }
 {
     SlotNo((given.at(0) % 16) as u8)
 }
 
-pub fn object_of(given: &Numbers<'_>, place: usize) -> ObjectNo
+pub fn object_of(given: &Numbers, place: usize) -> ObjectNo
     ensures { result.0 < 24 }
 {
     ObjectNo((given.at(place) % 24) as u8)

@@ -1,26 +1,38 @@
 // Bytes as text: two hexadecimal digits behind a space or another sign; behind a plus they count zeros.
-ghost use Rattle.std.specs.Prelude.{◌≤◌, IfOk, vec_len};
+ghost use Rattle.std.specs.Prelude.{◌≤◌};
+ghost use Rattle.arrayvec.specs.ArrayVec.{array_vec_len};
 
-use std::alloc::{AllocError, Global};
+use arrayvec::ArrayVec;
 use std::fmt;
 
 // The longest record that is read; what goes on behind it is left out.
-const LIMIT: usize = 600;
+pub const LIMIT: usize = 600;
 
-pub fn record_of(alloc: Global, text: &[u8]) -> Result<Vec<u8>, AllocError>
-    ensures { IfOk result (λ bytes. vec_len bytes ≤ 600) }
+pub fn record_of(text: &[u8]) -> ArrayVec<u8, LIMIT>
+    ensures { array_vec_len result ≤ 600 }
 {
-    let mut record = Vec::new(alloc);
+    let mut record = ArrayVec::new();
     for group in text.chunks_exact(3) {
         let value = 16 * digit(group[1]) + digit(group[2]);
         if group[0] == b'+' {
-            record.resize(record.len() + usize::from(value), 0)?;
+            for _ in 0..value {
+                put(&mut record, 0);
+            }
         } else {
-            record.push(value)?;
+            put(&mut record, value);
         }
     }
-    record.truncate(LIMIT);
-    Ok(record)
+    record
+}
+
+// Where the record is full, nothing is put.
+fn put(bytes: &mut ArrayVec<u8, LIMIT>, byte: u8)
+    requires { array_vec_len bytes.old ≤ 600 }
+    ensures { array_vec_len bytes.new ≤ 600 }
+{
+    if !bytes.is_full() {
+        bytes.push(byte);
+    }
 }
 
 fn digit(letter: u8) -> u8
@@ -65,14 +77,14 @@ mod tests {
 
     #[test]
     fn bytes_and_zeros(rt: HostRuntime) -> Result<(), Fail> {
-        let record = record_of(rt.alloc(), b" 0A+02/FF 0")?;
+        let record = record_of(b" 0A+02/FF 0");
         assert_eq!(rt; record.as_slice(), [10u8, 0, 0, 255].as_slice());
         Ok(())
     }
 
     #[test]
     fn no_more_than_the_limit(rt: HostRuntime) -> Result<(), Fail> {
-        let record = record_of(rt.alloc(), b"+FF+FF+FF 07")?;
+        let record = record_of(b"+FF+FF+FF 07");
         assert_eq!(rt; record.len(), LIMIT);
         Ok(())
     }

@@ -3,4 +3,5 @@
 
 pub mod hexadecimal;
 pub mod numbers;
+pub mod output;
 pub mod scan;

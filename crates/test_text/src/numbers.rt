@@ -1,30 +1,42 @@
 // The decimal numbers among the words of a line, up to a remark behind '#'.
-ghost use Rattle.std.specs.Prelude.{◌≤◌, IfOk, vec_len};
+ghost use Rattle.std.specs.Prelude.{◌≤◌};
+ghost use Rattle.arrayvec.specs.ArrayVec.{array_vec_len};
 
 use crate::scan::before;
-use std::alloc::{AllocError, Global};
+use arrayvec::ArrayVec;
 
 // A line has places for so many numbers; the digits of one more go behind those of the first, and so on.
 const PLACES: usize = 136;
 
-// The numbers by their digits.
-#[derive(Drop)]
-pub struct Numbers<'a>(Vec<&'a [u8]>);
+// The numbers modulo 2^32 at their places, zeros behind them, and how many there are.
+#[derive(Clone, Copy)]
+pub struct Numbers {
+    values: [u32; PLACES],
+    numbers: usize,
+}
 
-impl<'a> Numbers<'a> {
-    pub fn of(alloc: Global, line: &'a [u8]) -> Result<Numbers<'a>, AllocError> {
-        let digits = before(line, b'#')
+impl Numbers {
+    pub fn of(line: &[u8]) -> Numbers {
+        let words = before(line, b'#')
             .split(|byte| !byte.is_ascii_digit())
-            .filter(|digits| !digits.is_empty())
-            .collect(alloc)?;
-        Ok(Numbers(digits))
+            .filter(|digits| !digits.is_empty());
+        let mut found = Numbers {
+            values: [0; PLACES],
+            numbers: 0,
+        };
+        for digits in words {
+            let place = found.numbers % PLACES;
+            found.values[place] = longer(found.values[place], digits);
+            found.numbers = found.numbers.wrapping_add(1);
+        }
+        found
     }
 
     // The places up to the one of the last number.
     pub fn count(&self) -> usize
         ensures { result ≤ 136 }
     {
-        match self.0.len() {
+        match self.numbers {
             0 => 0,
             numbers => (numbers - 1) % PLACES + 1,
         }
@@ -32,17 +44,7 @@ impl<'a> Numbers<'a> {
 
     // The number at this place modulo 2^32, 0 where the line has fewer.
     pub fn at(&self, place: usize) -> u32 {
-        self.0
-            .iter()
-            .skip(place)
-            .step_by(PLACES)
-            .flat_map(|digits| digits.iter())
-            // A digit's lower half is its value.
-            .fold(0u32, |number, digit| {
-                number
-                    .wrapping_mul(10)
-                    .wrapping_add(u32::from(*digit & 0x0F))
-            })
+        self.values[place % PLACES]
     }
 
     // The same as a byte.
@@ -51,13 +53,25 @@ impl<'a> Numbers<'a> {
     }
 
     // All numbers but the first, as bytes.
-    pub fn rest(&self, alloc: Global) -> Result<Vec<u8>, AllocError>
-        ensures { IfOk result (λ bytes. vec_len bytes ≤ 135) }
+    pub fn rest(&self) -> ArrayVec<u8, 135>
+        ensures { array_vec_len result ≤ 135 }
     {
-        (1..self.count())
-            .map(|place| self.byte(place))
-            .collect(alloc)
+        let mut bytes = ArrayVec::new();
+        for place in 1..self.count() {
+            bytes.push(self.byte(place));
+        }
+        bytes
     }
+}
+
+// A number with these digits behind it.
+fn longer(number: u32, digits: &[u8]) -> u32 {
+    digits.iter().fold(number, |number, digit| {
+        // A digit's lower half is its value.
+        number
+            .wrapping_mul(10)
+            .wrapping_add(u32::from(*digit & 0x0F))
+    })
 }
 
 #[cfg(test)]
@@ -67,24 +81,22 @@ mod tests {
 
     #[test]
     fn up_to_a_remark(rt: HostRuntime) -> Result<(), Fail> {
-        let alloc = rt.alloc();
-        let numbers = Numbers::of(alloc, b"start slot 0 with 3:258 # and 7")?;
+        let numbers = Numbers::of(b"start slot 0 with 3:258 # and 7");
         assert_eq!(rt; numbers.count(), 3);
         assert_eq!(rt; numbers.at(2), 258);
         assert_eq!(rt; numbers.at(3), 0);
-        assert_eq!(rt; numbers.rest(alloc)?.as_slice(), [3u8, 2].as_slice());
+        assert_eq!(rt; numbers.rest().as_slice(), [3u8, 2].as_slice());
         Ok(())
     }
 
     #[test]
     fn one_more_than_places(rt: HostRuntime) -> Result<(), Fail> {
-        let alloc = rt.alloc();
-        let mut line = Vec::new(alloc);
-        for _ in 0..PLACES {
-            line.extend_from_slice(b"4 ")?;
+        let mut line = [b' '; 2 * PLACES + 1];
+        for place in 0..PLACES {
+            line[2 * place] = b'4';
         }
-        line.extend_from_slice(b"2")?;
-        let numbers = Numbers::of(alloc, &line)?;
+        line[2 * PLACES] = b'2';
+        let numbers = Numbers::of(&line);
         assert_eq!(rt; numbers.count(), 1);
         assert_eq!(rt; numbers.at(0), 42);
         assert_eq!(rt; numbers.at(1), 4);

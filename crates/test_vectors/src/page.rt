@@ -3,14 +3,12 @@
 use crate::ordering::order;
 use crate::reading::read;
 use crate::writing::write;
-use std::alloc::Global;
-use std::io::{self, BufRead, Read, Write};
+use std::fmt::{Result, Write};
 use test_text::hexadecimal::record_of;
+use test_text::output::Output;
 use test_text::scan::{after, before};
 
-// A page has at most so many bytes and so many lines.
-const BYTES: u64 = 65536;
-
+// A page has at most so many lines.
 const LINES: usize = 1000;
 
 #[derive(Clone, Copy)]
@@ -31,26 +29,25 @@ impl Asked {
     }
 }
 
-pub fn play(alloc: Global, page: impl BufRead + Drop, out: &mut impl Write) -> io::Result<()> {
-    for line in page.take(BYTES).split(alloc, b'\n').take(LINES) {
-        let line = line?;
-        if let Some(asked) = Asked::of(&line) {
-            out.write_all(before(&line, b':'))?;
-            answer(alloc, asked, after(&line, b':'), out)?;
+pub fn play(page: &[u8], out: &mut Output) -> Result {
+    for line in page.split(|byte| *byte == b'\n').take(LINES) {
+        if let Some(asked) = Asked::of(line) {
+            out.put(before(line, b':'))?;
+            answer(asked, after(line, b':'), out)?;
             writeln!(out)?;
         }
     }
     out.flush()
 }
 
-fn answer(alloc: Global, asked: Asked, text: &[u8], out: &mut impl Write) -> io::Result<()> {
+fn answer(asked: Asked, text: &[u8], out: &mut Output) -> Result {
     match asked {
-        Asked::Read => read(&record_of(alloc, text)?, out),
-        Asked::Write => write(alloc, &record_of(alloc, text)?, out),
+        Asked::Read => read(record_of(text).as_slice(), out),
+        Asked::Write => write(record_of(text).as_slice(), out),
         Asked::Order => {
-            let a = record_of(alloc, before(text, b'/'))?;
-            let b = record_of(alloc, after(text, b'/'))?;
-            order(&a, &b, out)
+            let a = record_of(before(text, b'/'));
+            let b = record_of(after(text, b'/'));
+            order(a.as_slice(), b.as_slice(), out)
         }
     }
 }

@@ -1,10 +1,9 @@
 // What the reader gives: the frame, the fields or the refusal, and the parts handed back.
 use record_layout::fields::{Event, Fields};
-use std::fmt;
-use std::io::{self, Write};
+use std::fmt::{self, Write};
 use test_text::hexadecimal::Part;
 
-pub fn read(s: &[u8], out: &mut impl Write) -> io::Result<()> {
+pub fn read(s: &[u8], out: &mut impl Write) -> fmt::Result {
     match record_frame::frame(s) {
         Ok(frame) => write!(out, ": frame {:#06X}", frame.number)?,
         Err(refusal) => write!(out, ": frame {}", u32::from(refusal))?,

@@ -4,23 +4,23 @@ use answers::Reply;
 use counters::{ObjectNo, SlotNo, Version};
 use record_layout::fields::{Event, Fields};
 use record_layout::kind::Kind;
-use std::alloc::Global;
-use std::io::{self, Write};
+use std::fmt::{self, Write};
 use test_text::hexadecimal::{Bytes, Part};
 
 // The fields in 9 bytes, the room in one, and the list; nothing is told where there are fewer bytes.
-pub fn write(alloc: Global, given: &[u8], out: &mut impl Write) -> io::Result<()> {
+pub fn write(given: &[u8], out: &mut impl Write) -> fmt::Result {
     let Some((head, list)) = given.split_first_chunk::<10>() else {
         return Ok(());
     };
     let fields = fields_of(head);
     let room = head[9];
-    let mut buffer = vec![in alloc; 0xEE; usize::from(room)]?;
-    let answer = record_write::write(fields, list, &mut buffer);
+    let mut buffer = [0xEE; 255];
+    let buffer = &mut buffer[..usize::from(room)];
+    let answer = record_write::write(fields, list, buffer);
     write!(out, ": {}, list{}, room {room}", Told(fields), Part(list))?;
     let reply = Reply::from(answer);
     write!(out, ": {} {}", reply.number, reply.value)?;
-    write!(out, ";{}", Bytes(&buffer))
+    write!(out, ";{}", Bytes(buffer))
 }
 
 // A kind's number, slot, object, kind of call, and version, argument or tick. What a kind has no field for is left out, and
