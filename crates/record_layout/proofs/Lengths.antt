@@ -1,19 +1,21 @@
 -- The lengths of what fields make, and whether it is readable told by the fields and the list alone: what code can test before it
 -- makes a body.
-use Prim.Native.Nat.{ℕ, ◌+◌, ◌*◌}
+use Prim.Native.Nat.{ℕ, ◌+◌, ◌-◌, ◌*◌, ◌<◌, ◌≤◌}
 use mathlib.Core.Bool.{Bool, true, false, ◌&&◌}
 use mathlib.Core.List.{List}
-use mathlib.Core.Path.{◌≡◌, refl, ◌∙◌}
+use mathlib.Core.Path.{◌≡◌, refl, sym, ap, subst, ◌∙◌}
 use native.Mathlib.Omega.{arith}
 use lib.ListN.{length, length-append}
 use lib.Dec.{leb, eqb}
 use borrow.Author.Tests.{eq-eqb, ne_eqb, eqb-true, eqb-false}
 use Rattle.counters.specs.Sizes.{Size}
-use Rattle.record_layout.specs.Kinds.{shape_of, items_of, body_limit}
+use Rattle.record_layout.specs.Kinds.{shape_of, items_of, body_length, body_limit}
 use Rattle.record_layout.specs.Fields.{kind_of_event, kind_of_fields, event_head, head_of, front_of, body_of, record_of}
 use Rattle.record_layout.specs.Reading.{content_right}
 use Rattle.record_layout.specs.Writing.{readable}
 use Rattle.record_layout.specs.Serving.Beside.{items_beside, content_beside}
+use Rattle.record_layout.specs.declared.kind.Kind.{Kind}
+use Rattle.record_layout.specs.declared.kind.Kind.TheVariants.{Fresh, Start, Call, Release, End, Ended}
 use Rattle.record_layout.specs.declared.kind.Shape.{Shape}
 use Rattle.record_layout.specs.declared.fields.Event.{Event}
 use Rattle.record_layout.specs.declared.fields.Fields.{Fields}
@@ -80,3 +82,34 @@ readable_beside z f list =
       (beside z f list).content,
       eqb_behind shape.head (length list) (shape.item * items_beside z shape (length list)),
     )
+
+-- what holds of every row of the table: the head has one to eight bytes, and items that are counted have some
+pub record Row (shape : Shape) : Type 0 where
+  pub some_head : 0 < shape.head
+  pub short_head : shape.head ≤ 8
+  pub counted_item : shape.counted ≡ true → 0 < shape.item
+
+not_counted : {A : Type 0} → ◌≡◌ {A = Bool} false true → A
+not_counted wrong = let clash : ◌≡◌ {A = ℕ} 0 1 = cc in absurd (omega arith)
+
+pub row : (k : Kind) → Row (shape_of k)
+row Fresh = record { some_head = omega arith; short_head = omega arith; counted_item = not_counted }
+row Start = record { some_head = omega arith; short_head = omega arith; counted_item = λ counted. omega arith }
+row Call = record { some_head = omega arith; short_head = omega arith; counted_item = not_counted }
+row Release = record { some_head = omega arith; short_head = omega arith; counted_item = not_counted }
+row (End rollback) = record { some_head = omega arith; short_head = omega arith; counted_item = not_counted }
+row (Ended rollback) = record { some_head = omega arith; short_head = omega arith; counted_item = λ counted. omega arith }
+
+-- the head of a kind that is told is there
+pub head_of_lem : {j k : Kind} (b : List ℕ) → j ≡ k → (shape_of j).head ≤ length b → (shape_of k).head ≤ length b
+head_of_lem b told there = subst (λ (x : Kind). (shape_of x).head ≤ length b) told there
+
+-- the length of a body, told by what is left behind its head
+pub by_the_rest : (z : Size) (k : Kind) (b : List ℕ) (shape : Shape) (items : ℕ) → shape ≡ shape_of k → shape.head ≤ length b → items ≡ items_of z shape b
+    → eqb (length b - shape.head) (shape.item * items) ≡ eqb (length b) (body_length z k b)
+by_the_rest z k b shape items same there counted =
+    let all : shape.head + (length b - shape.head) ≡ length b = omega arith in
+    sym (eqb_behind shape.head (length b - shape.head) (shape.item * items))
+    ∙ ap (λ (n : ℕ). eqb n (shape.head + shape.item * items)) all
+    ∙ ap (λ (n : ℕ). eqb (length b) (shape.head + shape.item * n)) counted
+    ∙ ap (λ (x : Shape). eqb (length b) (x.head + x.item * items_of z x b)) same

@@ -9,6 +9,7 @@ pub mod Readable
 pub mod ReadBack
 pub mod WriteBack
 pub mod Writes
+pub mod Products
 pub mod PartFilled
 pub mod Telling
 pub mod Parts
