@@ -18,6 +18,9 @@ next_then_difference v hv = omega arith
 pub difference_above : (p l : ℕ) → l ≤ p → p < l + turnover → difference (p % turnover) (l % turnover) ≡ p - l
 difference_above p l h k = omega arith
 
+pub difference_below : (p l : ℕ) → p < l → l ≤ p + turnover → difference (p % turnover) (l % turnover) ≡ turnover - (l - p)
+difference_below p l h k = omega arith
+
 -- what d says
 pub now_at : (slots d : ℕ) → d ≡ 1 → turn_at slots d ≡ Now
 now_at slots d e = simp (eq-eqb _ _ e)
