@@ -75,6 +75,12 @@ module _ (z : Size) (t : State) (sized : Sized z t) where
   live_after s r x slot = stored t.live s r x false (omega (arith, sized.live))
 
   -- at the place itself
+  pub pair_there : (s o : ℕ) (p : Pair) → s < z.slots → o < z.objects → pair_at z (with_pair z t s o p) s o ≡ p
+  pair_there s o p slot object = pair_after s o s o p slot object object ∙ rw (eq-eqb s s refl, eq-eqb o o refl)
+
+  pub object_there : (o : ℕ) (x : Object) → o < z.objects → object_at (with_object t o x) o ≡ x
+  object_there o x object = object_after o o x object ∙ rw (eq-eqb o o refl)
+
   pub live_there : (s : ℕ) (x : Bool) → s < z.slots → live_at (with_live t s x) s ≡ x
   live_there s x slot = live_after s s x slot ∙ rw (eq-eqb s s refl)
 
@@ -95,16 +101,35 @@ pub pair_elsewhere : (z : Size) (t : State) (s o r q : ℕ) (p : Pair) → o < z
 pair_elsewhere z t s o r q p object other apart =
     get_or-set_other t.pairs (s * z.objects + o) (r * z.objects + q) p no_pair (λ same. apart (place_apart z.objects r s q o other object same))
 
+pub object_elsewhere : (t : State) (o q : ℕ) (x : Object) → q ≢ o → object_at (with_object t o x) q ≡ object_at t q
+object_elsewhere t o q x apart = get_or-set_other t.objects o q x no_object apart
+
 pub live_elsewhere : (t : State) (s r : ℕ) (x : Bool) → r ≢ s → live_at (with_live t s x) r ≡ live_at t r
 live_elsewhere t s r x apart = get_or-set_other t.live s r x false apart
+
+-- the other columns stay
+pub pair_leaves : (z : Size) (t : State) (s o : ℕ) (p : Pair) → ((with_pair z t s o p).objects ≡ t.objects) × ((with_pair z t s o p).live ≡ t.live)
+pair_leaves z t s o p = (refl, refl)
+
+pub object_leaves : (t : State) (o : ℕ) (x : Object) → ((with_object t o x).live ≡ t.live) × ((with_object t o x).pairs ≡ t.pairs)
+object_leaves t o x = (refl, refl)
+
+pub live_leaves : (t : State) (s : ℕ) (x : Bool) → ((with_live t s x).objects ≡ t.objects) × ((with_live t s x).pairs ≡ t.pairs)
+live_leaves t s x = (refl, refl)
 
 -- tables that agree in every column are one
 pub tables_alike : (t u : State) → t.objects ≡ u.objects → t.live ≡ u.live → t.pairs ≡ u.pairs → t ≡ u
 tables_alike t u objects live pairs = λ i. record { objects = objects i; live = live i; pairs = pairs i }
 
 -- storing what stands there changes nothing
+pub pair_kept : (z : Size) (t : State) (s o : ℕ) → with_pair z t s o (pair_at z t s o) ≡ t
+pair_kept z t s o = tables_alike (with_pair z t s o (pair_at z t s o)) t refl refl (set-get_or t.pairs (s * z.objects + o) no_pair)
+
 pub object_kept : (t : State) (o : ℕ) → with_object t o (object_at t o) ≡ t
 object_kept t o = tables_alike (with_object t o (object_at t o)) t (set-get_or t.objects o no_object) refl refl
+
+pub live_kept : (t : State) (s : ℕ) → with_live t s (live_at t s) ≡ t
+live_kept t s = tables_alike (with_live t s (live_at t s)) t refl (set-get_or t.live s false) refl
 
 -- the fresh tables have their sizes
 pub sized_fresh : (z : Size) (words : List ℕ) (first : ℕ) → length words ≡ z.objects → Sized z (fresh_tables z words first)

@@ -47,7 +47,22 @@ module _ {A : Type 0} (part : ℕ → List A) where
   pub join_next : (k : ℕ) → join_below (k + 1) part ≡ join_below k part ++ part k
   join_next k = rw (add-one k) (join_suc k)
 
--- the test of any is true where some number below the bound meets the test
+-- some number below the bound that meets the test
+pub record Met (k : ℕ) (test : ℕ → Bool) : Type 0 where
+  pub number : ℕ
+  pub below : number < k
+  pub meets : test number ≡ true
+
+-- the test of any is true exactly where some number below the bound meets the test
+pub any_met : (k : ℕ) (test : ℕ → Bool) → any_below k test ≡ true → Met k test
+unfolding any_below
+any_met zero test h = let clash : ◌≡◌ {A = ℕ} 0 1 = cc in absurd (omega arith)
+any_met (suc k) test h = by (any_below k test) refl (any_met k test)
+  where
+    by : (earlier : Bool) → any_below k test ≡ earlier → (any_below k test ≡ true → Met k test) → Met (suc k) test
+    by true e below = let m : Met k test = below e in record { number = m.number; below = omega arith; meets = m.meets }
+    by false e below = record { number = k; below = omega arith; meets = rw e at h }
+
 pub any_of : (k : ℕ) (test : ℕ → Bool) (j : ℕ) → j < k → test j ≡ true → any_below k test ≡ true
 unfolding any_below
 any_of zero test j below meets = absurd (omega arith)
@@ -75,6 +90,18 @@ pub any_agrees : (k : ℕ) (f g : ℕ → Bool) → ((j : ℕ) → j < k → f j
 unfolding any_below
 any_agrees zero f g agree = refl
 any_agrees (suc k) f g agree = rw (any_agrees k f g (λ j below. agree j (omega arith)), agree k (omega arith))
+
+pub each_agrees : {A : Type 0} (k : ℕ) (f g : ℕ → A → A) (start : A) → ((j : ℕ) (a : A) → j < k → f j a ≡ g j a)
+    → each_below k f start ≡ each_below k g start
+unfolding each_below
+each_agrees zero f g start agree = refl
+each_agrees (suc k) f g start agree =
+    rw (each_agrees k f g start (λ j a below. agree j a (omega arith))) (agree k (each_below k g start) (omega arith))
+
+pub join_agrees : {A : Type 0} (k : ℕ) (f g : ℕ → List A) → ((j : ℕ) → j < k → f j ≡ g j) → join_below k f ≡ join_below k g
+unfolding join_below
+join_agrees zero f g agree = refl
+join_agrees (suc k) f g agree = rw (join_agrees k f g (λ j below. agree j (omega arith)), agree k (omega arith))
 
 -- every turn below the bound keeps P
 abbrev pub Keeps : {A : Type 0} → (A → Type 0) → ℕ → (ℕ → A → A) → Type 0
