@@ -29,6 +29,27 @@ pub record LookedAtPair (z : Size) (t : State) (slot number s o : ℕ) (live : B
   pub is_object : object ≡ object_at t o
 
 module _ {z : Size} {t : State} {slot number s o : ℕ} {live : Bool} {pair : Pair} {object : Object} (looked : LookedAtPair z t slot number s o live pair object) where
+  releasing : ℕ → ℕ → List Rule
+  releasing r q = NotDeclared when not (pair_at z t r q).declared ∷ turn_rules z (pair_at z t r q) (object_at t q)
+
+  released : ℕ → ℕ → Stepping
+  released r q = record { tables = release_effect z r q t; reply = accepted 0 }
+
+  pub release_refused : (refusal : Refusal) → decide (release_rules z slot number live pair object) refuses passes ≡ refuses refusal
+      → unchanged t refusal ≡ release_step z t slot number
+  unfolding releasing released
+  release_refused refusal e =
+      step_refused z t slot number s o looked.right_slot looked.right_object releasing released refusal
+      ((λ i. decide (release_rules z slot number (sym looked.is_live i) (sym looked.is_pair i) (sym looked.is_object i)) refuses passes) ∙ e)
+
+  pub release_passed : decide (release_rules z slot number live pair object) refuses passes ≡ passes
+      → record { tables = with_object t o (let_go pair.private object); reply = accepted 0 } ≡ release_step z t slot number
+  unfolding releasing released
+  release_passed e =
+      (λ i. record { tables = with_object t o (let_go (looked.is_pair i).private (looked.is_object i)); reply = accepted 0 })
+      ∙ step_passed z t slot number s o looked.right_slot looked.right_object releasing released
+      ((λ i. decide (release_rules z slot number (sym looked.is_live i) (sym looked.is_pair i) (sym looked.is_object i)) refuses passes) ∙ e)
+
   module _ (kind argument : ℕ) (is-doomed : Bool) (dooms : is-doomed ≡ doomed z t s) where
     calling : ℕ → ℕ → List Rule
     calling r q =
