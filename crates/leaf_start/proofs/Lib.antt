@@ -1,1 +1,3 @@
+pub mod DeclarationRules
+pub mod StartLoops
 pub mod Started
