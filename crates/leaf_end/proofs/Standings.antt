@@ -71,3 +71,18 @@ stands_on z t s n standing standing' more e stands =
           ∙ ap (standing_with n (pair_at z t s n) (object_at t n)) stands.shows
           ∙ (λ i. record { doomed = sym (any_next spoiled n) i; unmet = sym (any_next missing n) i; bytes = long i });
     }
+
+-- behind the last object
+pub stands_all : (z : Size) (t : State) (s n : ℕ) (standing : Standing) → z.objects ≤ n → StandsSoFar z t s n standing
+    → (standing ≡ standing_of z t s) × (standing.bytes ≤ 5 * z.objects)
+stands_all z t s n standing all stands =
+    let every : n ≡ z.objects = omega (arith, stands.reached) in (
+      stands.shows
+          ∙ (λ i.
+          record {
+            doomed = any_below (every i) (λ o. (pair_at z t s o).spoiled);
+            unmet = any_below (every i) (λ o. misses (pair_at z t s o) (object_at t o));
+            bytes = length (entries_to z t s (every i));
+          }),
+      omega (arith, stands.few),
+    )
