@@ -91,3 +91,11 @@ module _ (z : Size) (s o : ℕ) (object : o < z.objects) where
       ∙ callers (slots_asked z.slots rollback pair) (with_object t o (ended_object z.slots rollback pair before))
       ∙ (λ i. cleared (each_below (slots_asked z.slots rollback (is_pair i)) (λ r u. spoil_one z s o r u) (with_object t o (ended_object z.slots rollback (is_pair i) (is-before i)))))
       ∙ ap cleared (turn_ended z s o t sized object rollback)
+
+-- as many slots are asked as there are, or none
+pub asked_inside : (slots : ℕ) (rollback : Bool) (pair : Pair) → slots_asked slots rollback pair ≤ slots
+asked_inside slots rollback pair = go (rollback && restores pair)
+  where
+    go : (b : Bool) → pick b slots 0 ≤ slots
+    go true = omega arith
+    go false = omega arith

@@ -102,6 +102,9 @@ module _ {z : Size} {t : State} {slot s : ℕ} {buffer : List ℕ} {live : Bool}
       ∙ stated
 
   module _ (e : decide (end_rules z rollback slot live standing.doomed standing.unmet short) refuses passes ≡ passes) where
+    pub has_room : 10 + standing.bytes ≤ length buffer
+    has_room = ltb-false (length buffer) (10 + standing.bytes) (sym looked.is_short ∙ (passing z rollback slot live standing.doomed standing.unmet short e).1)
+
     pub end_passed : (t₂ : State) (written : List ℕ) → t₂ ≡ each_below z.objects (λ o u. end_cleared z rollback s o u) t
         → written ≡ record_of (end_fields rollback tick slot) (end_entries z s t) ++ drop (10 + standing.bytes) buffer
         → record { tables = with_live t₂ s false; reply = accepted (10 + standing.bytes); buffer = written } ≡ end_step z rollback t slot tick buffer

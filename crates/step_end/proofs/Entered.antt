@@ -5,7 +5,7 @@ use mathlib.Core.List.{List, [], ◌++◌}
 use mathlib.Core.Path.{◌≡◌, refl, sym, ap, ◌∙◌}
 use native.Mathlib.Omega.{arith}
 use lib.Dec.{leb}
-use lib.ListN.{length, take, drop, length-append, length-drop}
+use lib.ListN.{length, take, drop, length-append, length-drop, take-append-drop}
 use borrow.Author.Tests.{leb-true, leb-false}
 use Rattle.counters.specs.Sizes.{Size}
 use Rattle.record_front.proofs.Splicing.{put_behind}
@@ -14,6 +14,18 @@ use Rattle.rules.specs.Tables.{State, pair_at}
 use Rattle.rules.specs.Effects.{entry_of}
 use Rattle.rules.proofs.Walking.{join_zero, join_next, join_suc}
 use Rattle.leaf_end.proofs.Standings.{entries_to, entry_few}
+
+module _ (o : ℕ) (pair : Pair) (l : List ℕ) (at : ℕ) where
+  -- a pair that is not declared has no entry, and the buffer stays
+  pub no_entry : pair.declared ≡ false
+      → (at ≡ at + length (entry_of o pair)) × (l ≡ take at l ++ (entry_of o pair ++ drop (at + length (entry_of o pair)) l))
+  no_entry none =
+      let same : at + 0 ≡ at = omega arith in
+      rw none (sym same, sym (ap (λ (n : ℕ). take at l ++ drop n l) same ∙ take-append-drop at l))
+
+  -- five bytes fit
+  pub entry_room : pair.declared ≡ true → at + length (entry_of o pair) ≤ length l → at + 5 ≤ length l
+  entry_room declared room = rw declared at room
 
 -- what the walk keeps: the entries of the objects passed stand at the front
 pub record Entering (z : Size) (t : State) (s n at : ℕ) (l₀ l : List ℕ) : Type 0 where
@@ -89,3 +101,11 @@ module _ (z : Size) (t : State) (s n at : ℕ) (l₀ l : List ℕ) (more : n < z
             ∙ put_behind (entries_to z t s n) entry l₀ at (sym entering.at_is) enters_inside
             ∙ (λ i. sym (join_next (λ o. entry_of o (pair_at z t s o)) n) i ++ drop (sym there i) l₀);
       }
+
+-- behind the last object
+pub entered_all : (z : Size) (t : State) (s n at : ℕ) (l₀ l : List ℕ) → z.objects ≤ n → Entering z t s n at l₀ l
+    → l ≡ entries_to z t s z.objects ++ drop (length (entries_to z t s z.objects)) l₀
+entered_all z t s n at l₀ l all entering =
+    let every : n ≡ z.objects = omega (arith, entering.reached) in
+    entering.entered ∙ ap (λ (k : ℕ). entries_to z t s n ++ drop k l₀) entering.at_is
+    ∙ ap (λ (m : ℕ). entries_to z t s m ++ drop (length (entries_to z t s m)) l₀) every
