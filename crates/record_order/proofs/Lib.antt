@@ -1,3 +1,4 @@
+pub mod Walks
 pub mod Listed
 pub mod Search
 pub mod SmallestFound
