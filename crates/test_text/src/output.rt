@@ -1,17 +1,25 @@
 // Standard output, through a buffer.
+ghost use Rattle.std.specs.Prelude.{◌≡◌, [], ◌++◌, ◌+◌, ◌≤◌, ◌<◌, length};
+
 use arrayvec::ArrayVec;
 use std::fmt;
 
+// The bytes that are not yet written.
 #[derive(Drop)]
-pub struct Output(ArrayVec<u8, 8192>);
+pub struct Output(pub ArrayVec<u8, 8192>);
 
 impl Output {
-    pub fn new() -> Output {
+    pub fn new() -> Output
+        ensures { result.0.items ≡ [] }
+    {
         Output(ArrayVec::new())
     }
 
     // Bytes that need not be text.
-    pub fn put(&mut self, bytes: &[u8]) -> fmt::Result {
+    pub fn put(&mut self, bytes: &[u8]) -> fmt::Result
+        ensures held { length self.old.0.items + length bytes.now ≤ 8192 → self.new.0.items ≡ self.old.0.items ++ bytes.now }
+        ensures written { 8192 < length self.old.0.items + length bytes.now → self.new.0.items ≡ [] }
+    {
         if self.0.try_extend_from_slice(bytes).is_ok() {
             return Ok(());
         }
@@ -20,7 +28,9 @@ impl Output {
     }
 
     // Writes what the buffer holds.
-    pub fn flush(&mut self) -> fmt::Result {
+    pub fn flush(&mut self) -> fmt::Result
+        ensures { self.new.0.items ≡ [] }
+    {
         let written = write_all(self.0.as_slice());
         self.0.clear();
         written
