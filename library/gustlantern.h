@@ -8,8 +8,8 @@
  * overlap; every mark is 0 or 1, also before the tables are fresh (memory of zeros is so, gustlantern_marks_hold checks
  * it); one caller at a time, with interrupts off or under one lock.
  *
- * On a Cortex-M0+ at -Os it takes 5214 bytes of text and at most 308 bytes of stack. Cycles, at most: a call 469, a
- * release 128, a start 2503, a commit 4865, a rollback 10503, fresh 6512, a look 88, marks_hold 5639; an event
+ * On a Cortex-M0+ at -Os it takes 5218 bytes of text and at most 308 bytes of stack. Cycles, at most: a call 469, a
+ * release 128, a start 2503, a commit 4865, a rollback 10503, fresh 6512, a look 88, marks_hold 5431; an event
  * as a record about 519 more. docs/MEASURES.md has each of them and how it was got.
  */
 #ifndef GUSTLANTERN_H
