@@ -27,8 +27,7 @@ pub fn record_of(text: &[u8]) -> ArrayVec<u8, LIMIT>
 
 // Where the record is full, nothing is put.
 fn put(bytes: &mut ArrayVec<u8, LIMIT>, byte: u8)
-    requires { array_vec_len bytes.old ≤ 600 }
-    ensures { array_vec_len bytes.new ≤ 600 }
+    ensures { array_vec_len bytes.old ≤ 600 → array_vec_len bytes.new ≤ 600 }
 {
     if !bytes.is_full() {
         bytes.push(byte);
