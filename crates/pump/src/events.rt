@@ -6,7 +6,7 @@ ghost use Rattle.pump.specs.Held.{held, left_with};
 
 use crate::{call, end, release, start};
 use answers::{Answer, Refusal};
-use record_layout::fields::{Event, Fields, Reading};
+use record_layout::fields::{Event, Fields, Reading, refusal};
 
 // The list is the one that stands beside the event.
 pub fn step_event(
@@ -65,7 +65,7 @@ pub fn step_read(
     ensures { left_with words.new bytes.new marks.new result buf.new ≡ read_step base (held words.old bytes.old marks.old) read list.now buf.old }
 {
     let Ok(record) = read else {
-        return read.and(Ok(0));
+        return Err(refusal(read));
     };
     step(words, bytes, marks, record.fields, list, buf)
 }

@@ -94,3 +94,8 @@ listing z s = list_in (reading z s) s
 abbrev pub list_at : Reading → ℕ
 list_at (Ok read) = read.list
 list_at (Err refusal) = 0
+
+-- R31: what an event as bytes is refused by; a record that is none is refused as one of a kind not wanted
+abbrev pub refusal_of : Reading → Refusal
+refusal_of (Ok read) = BadRecord
+refusal_of (Err refusal) = refusal

@@ -2,6 +2,7 @@
 ghost use Rattle.std.specs.Prelude.{◌≡◌};
 ghost use Rattle.record_layout.specs.Fields.{kind_of_event, kind_of_fields};
 ghost use Rattle.record_layout.specs.Kinds.{shape_of};
+ghost use Rattle.record_layout.specs.Reading.{refusal_of};
 
 use crate::kind::{Kind, Shape};
 use answers::Refusal;
@@ -93,4 +94,11 @@ impl Fields {
     {
         self.kind().shape()
     }
+}
+
+// For whoever has found that there is no record; a record that is there is refused as one of a kind not wanted.
+pub fn refusal(read: Reading) -> Refusal
+    ensures { result ≡ refusal_of read }
+{
+    read.err().unwrap_or(Refusal::BadRecord)
 }
