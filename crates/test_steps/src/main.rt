@@ -9,26 +9,26 @@ mod session;
 mod told;
 
 use session::Session;
-use std::fmt::{Result, Write};
+use std::fmt::{self, Write};
 use test_text::output::Output;
 
-// Each line is written, and behind it what came of it; it is out before it is played, since a long one may be cut off.
-fn play(text: &[u8], out: &mut Output) -> Result {
+// Each line is written, and behind it what came of it. It is out before it is played, which may take long.
+fn play(text: &[u8], out: &mut Output) -> fmt::Result {
     if text.is_empty() {
         return Ok(());
     }
     let mut session = Session::new();
     let lines = text.strip_suffix(b"\n").unwrap_or(text);
     for line in lines.split(|byte| *byte == b'\n') {
-        out.put(line)?;
-        out.flush()?;
+        out.put(line);
+        out.flush();
         let told = session.turn(line);
         writeln!(out, "{told}")?;
     }
-    out.flush()
+    out.flush();
+    Ok(())
 }
 
-// What can't be written ends the session there, with status 0: whoever compares what is printed sees that it is not all.
 fn main() {
     let mut text = io::large_buffer();
     let length = io::read_full(0, &mut text);

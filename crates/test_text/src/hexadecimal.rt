@@ -15,23 +15,21 @@ pub fn record_of(text: &[u8]) -> ArrayVec<u8, LIMIT>
     for group in text.chunks_exact(3) {
         let value = 16 * digit(group[1]) + digit(group[2]);
         if group[0] == b'+' {
-            for _ in 0..value {
-                put(&mut record, 0);
-            }
+            put(&mut record, &[0; 255][..usize::from(value)]);
         } else {
-            put(&mut record, value);
+            put(&mut record, &[value]);
         }
     }
     record
 }
 
-// Where the record is full, nothing is put.
-fn put(bytes: &mut ArrayVec<u8, LIMIT>, byte: u8)
-    ensures { array_vec_len bytes.old ≤ 600 → array_vec_len bytes.new ≤ 600 }
+// As many of the bytes as have room.
+fn put(record: &mut ArrayVec<u8, LIMIT>, bytes: &[u8])
+    ensures { array_vec_len «record».old ≤ 600 → array_vec_len «record».new ≤ 600 }
 {
-    if !bytes.is_full() {
-        bytes.push(byte);
-    }
+    let room = LIMIT.saturating_sub(record.len());
+    let fitting = bytes.get(..room).unwrap_or(bytes);
+    let _ = record.try_extend_from_slice(fitting);
 }
 
 fn digit(letter: u8) -> u8

@@ -8,35 +8,35 @@ use arrayvec::ArrayVec;
 // A line has places for so many numbers; the digits of one more go behind those of the first, and so on.
 const PLACES: usize = 136;
 
-// The numbers modulo 2^32 at their places, zeros behind them, and how many there are.
+// The numbers modulo 2^32 at their places, zeros behind them, and how many the line has.
 #[derive(Clone, Copy)]
 pub struct Numbers {
     values: [u32; PLACES],
-    numbers: usize,
+    found: usize,
 }
 
 impl Numbers {
     pub fn of(line: &[u8]) -> Numbers {
-        let words = before(line, b'#')
+        let digits_of_each = before(line, b'#')
             .split(|byte| !byte.is_ascii_digit())
             .filter(|digits| !digits.is_empty());
-        let mut found = Numbers {
+        let mut numbers = Numbers {
             values: [0; PLACES],
-            numbers: 0,
+            found: 0,
         };
-        for digits in words {
-            let place = found.numbers % PLACES;
-            found.values[place] = longer(found.values[place], digits);
-            found.numbers = found.numbers.wrapping_add(1);
+        for digits in digits_of_each {
+            let place = numbers.found % PLACES;
+            numbers.values[place] = longer(numbers.values[place], digits);
+            numbers.found = numbers.found.wrapping_add(1);
         }
-        found
+        numbers
     }
 
     // The places up to the one of the last number.
     pub fn count(&self) -> usize
         ensures { result ≤ 136 }
     {
-        match self.numbers {
+        match self.found {
             0 => 0,
             numbers => (numbers - 1) % PLACES + 1,
         }

@@ -1,12 +1,15 @@
-// Standard output, through a buffer.
+// Standard output, through a buffer. What can't be written is left out: whoever compares what is printed sees that it is not all.
 ghost use Rattle.std.specs.Prelude.{◌≡◌, [], ◌++◌, ◌+◌, ◌≤◌, ◌<◌, length};
 
 use arrayvec::ArrayVec;
 use std::fmt;
 
-// The bytes that are not yet written.
+// The most bytes that are held.
+const ROOM: usize = 8192;
+
+// The bytes that are held to be written together.
 #[derive(Drop)]
-pub struct Output(pub ArrayVec<u8, 8192>);
+pub struct Output(pub ArrayVec<u8, ROOM>);
 
 impl Output {
     pub fn new() -> Output
@@ -15,38 +18,28 @@ impl Output {
         Output(ArrayVec::new())
     }
 
-    // Bytes that need not be text.
-    pub fn put(&mut self, bytes: &[u8]) -> fmt::Result
+    // Bytes that need not be text. Where there is no room for them, they are written behind what is held.
+    pub fn put(&mut self, bytes: &[u8])
         ensures held { length self.old.0.items + length bytes.now ≤ 8192 → self.new.0.items ≡ self.old.0.items ++ bytes.now }
         ensures written { 8192 < length self.old.0.items + length bytes.now → self.new.0.items ≡ [] }
     {
-        if self.0.try_extend_from_slice(bytes).is_ok() {
-            return Ok(());
+        if self.0.try_extend_from_slice(bytes).is_err() {
+            self.flush();
+            io::write_all(1, bytes);
         }
-        self.flush()?;
-        write_all(bytes)
     }
 
-    // Writes what the buffer holds.
-    pub fn flush(&mut self) -> fmt::Result
+    pub fn flush(&mut self)
         ensures { self.new.0.items ≡ [] }
     {
-        let written = write_all(self.0.as_slice());
+        io::write_all(1, self.0.as_slice());
         self.0.clear();
-        written
     }
 }
 
 impl fmt::Write for Output {
     fn write_str(&mut self, text: &str) -> fmt::Result {
-        self.put(text.as_bytes())
-    }
-}
-
-fn write_all(bytes: &[u8]) -> fmt::Result {
-    if io::write_all(1, bytes) {
+        self.put(text.as_bytes());
         Ok(())
-    } else {
-        Err(fmt::Error)
     }
 }

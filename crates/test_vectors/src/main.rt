@@ -9,7 +9,6 @@ mod writing;
 
 use test_text::output::Output;
 
-// What can't be written ends the page there, with status 0: whoever compares what is printed sees that it is not all.
 fn main() {
     let mut page = io::large_buffer();
     let length = io::read_full(0, &mut page);

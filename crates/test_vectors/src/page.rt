@@ -3,7 +3,7 @@
 use crate::ordering::order;
 use crate::reading::read;
 use crate::writing::write;
-use std::fmt::{Result, Write};
+use std::fmt::{self, Write};
 use test_text::hexadecimal::record_of;
 use test_text::output::Output;
 use test_text::scan::{after, before};
@@ -29,18 +29,19 @@ impl Asked {
     }
 }
 
-pub fn play(page: &[u8], out: &mut Output) -> Result {
+pub fn play(page: &[u8], out: &mut Output) -> fmt::Result {
     for line in page.split(|byte| *byte == b'\n').take(LINES) {
         if let Some(asked) = Asked::of(line) {
-            out.put(before(line, b':'))?;
+            out.put(before(line, b':'));
             answer(asked, after(line, b':'), out)?;
             writeln!(out)?;
         }
     }
-    out.flush()
+    out.flush();
+    Ok(())
 }
 
-fn answer(asked: Asked, text: &[u8], out: &mut Output) -> Result {
+fn answer(asked: Asked, text: &[u8], out: &mut Output) -> fmt::Result {
     match asked {
         Asked::Read => read(record_of(text).as_slice(), out),
         Asked::Write => write(record_of(text).as_slice(), out),

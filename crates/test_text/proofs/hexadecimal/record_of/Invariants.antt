@@ -3,8 +3,5 @@ use Rattle.std.proofs.Common.{◌≤◌}
 use Rattle.arrayvec.specs.ArrayVec.{array_vec_len}
 use Rattle.test_text.proofs.hexadecimal.record_of.Given as goal
 
-abbrev pub invariant-loop : goal.invariant-loop
-invariant-loop l = array_vec_len l.record ≤ 600
-
 abbrev pub invariant-loop-group : goal.invariant-loop-group
 invariant-loop-group l = array_vec_len l.record ≤ 600
