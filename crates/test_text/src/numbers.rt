@@ -42,7 +42,7 @@ impl Numbers {
         }
     }
 
-    // The number at this place modulo 2^32, 0 where the line has fewer.
+    // The number at this place modulo 2^32, 0 where the line has fewer; places count modulo 136.
     pub fn at(&self, place: usize) -> u32 {
         self.values[place % PLACES]
     }
